@@ -1,0 +1,80 @@
+// The field GF(2^8) of the paper's section 1: bytes as polynomials over two elements, modulo
+// x^8 + x^4 + x^3 + x^2 + 1. An element is a kind of its own, so that bytes, disk numbers and
+// exponents cannot be mixed.
+mod logarithm_table;
+mod power_table;
+
+use logarithm_table::LOGARITHMS;
+use power_table::POWERS;
+ghost use mathlib.Core.Path.{_≡_};
+ghost use Prim.Native.Nat.{_<_};
+ghost use Rattle.gf256.specs.Field.{sum, double, product, power, inverse, logarithm};
+
+pub struct Element(pub u8);
+
+impl Element {
+    pub fn sum(self, other: Element) -> Element
+        ensures { λ r. ⌜ r .0 ≡ sum (self .0) (other .0) ⌝ }
+    {
+        Element(self.0 ^ other.0)
+    }
+
+    // Times 02.
+    pub fn double(self) -> Element
+        ensures { λ r. ⌜ r .0 ≡ double (self .0) ⌝ }
+    {
+        let x = self.0;
+        Element(((x % 128) * 2) ^ (x / 128 * 0x1d))
+    }
+
+    // The power of 02 at the sum of the logarithms; 00 has none and is handled apart.
+    pub fn product(self, other: Element) -> Element
+        ensures { λ r. ⌜ r .0 ≡ product (self .0) (other .0) ⌝ }
+    {
+        if self.0 == 0 {
+            return Element(0);
+        }
+        if other.0 == 0 {
+            return other;
+        }
+        power_of_two((self.logarithm() + other.logarithm()) % 255)
+    }
+
+    // Exponents of a nonzero element count modulo 255.
+    pub fn power(self, exponent: u64) -> Element
+        ensures { λ r. ⌜ r .0 ≡ power (self .0) exponent ⌝ }
+    {
+        if exponent == 0 {
+            return Element(1);
+        }
+        if self.0 == 0 {
+            return Element(0);
+        }
+        power_of_two(self.logarithm() * (exponent % 255) % 255)
+    }
+
+    // 02^(255 - e) for 02^e; the exponent 255, of 01, is no place of the table and counts as 0.
+    pub fn inverse(self) -> Element
+        ensures { λ r. ⌜ r .0 ≡ inverse (self .0) ⌝ }
+    {
+        if self.0 == 0 {
+            return Element(0);
+        }
+        power_of_two((255 - self.logarithm()) % 255)
+    }
+
+    // The exponent below 255 of the power of 02 that this is; 255 for 00.
+    pub fn logarithm(self) -> u64
+        ensures { λ r. ⌜ r ≡ logarithm (self .0) ⌝ }
+    {
+        let x = self.0;
+        LOGARITHMS[x as usize] as u64
+    }
+}
+
+fn power_of_two(exponent: u64) -> Element
+    requires { ⌜ exponent < 255 ⌝ }
+    ensures { λ r. ⌜ r .0 ≡ power 2 exponent ⌝ }
+{
+    Element(POWERS[exponent as usize])
+}
