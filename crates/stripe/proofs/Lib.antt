@@ -1,0 +1,9 @@
+pub mod Put
+pub mod Total
+pub mod Places
+pub mod Sweep
+pub mod Horner
+pub mod Weighted
+pub mod Inside
+pub mod Refused
+pub mod Summary

@@ -1,0 +1,83 @@
+-- Where the symbols of a stripe stand in its buffer: the one law of `lift`, and what a store at a place does to the columns.
+-- Assumes nothing.
+use mathlib.Core.Path.{_≡_, refl, sym, ap, ap₂, subst, fun-ext, _∙_}
+use mathlib.Core.Logic.{_≢_}
+use mathlib.Core.List.{List, [], _∷_}
+use Prim.Native.Nat.{ℕ, zero, suc, _+_, _*_, _/_, _%_, _≤_, _<_}
+use native.Mathlib.Nat.{le-of-suc-le-suc, not-suc-le-zero, div-add-mod', mod-lt, div-lt-iff-lt-mul}
+use lib.Arith.{digits-div, digits-mod, digits-lt}
+use lib.ListN.{length, getD, set}
+use lib.Seq.{ext-getD, getD-set-same, getD-set-other}
+use Rattle.stripe.specs.declared.Geometry.{Geometry}
+use Rattle.stripe.specs.Choice.{tabulate}
+use Rattle.stripe.specs.Column.{Column, put}
+use Rattle.stripe.specs.Stripe.{start, size, column, roleAt, columnAt, lift}
+use Rattle.stripe.proofs.Put.{by-role, put-same, put-other}
+
+-- ---- tables
+pub length-tabulate : (n : ℕ) (f : ℕ → ℕ) → length (tabulate n f) ≡ n
+unfolding tabulate
+length-tabulate zero f = refl
+length-tabulate (suc n) f = ap suc (length-tabulate n (λ k. f (suc k)))
+
+pub getD-tabulate : (n : ℕ) (f : ℕ → ℕ) (k d : ℕ) → k < n → getD (tabulate n f) k d ≡ f k
+unfolding tabulate
+getD-tabulate zero f k d h = absurd (not-suc-le-zero h)
+getD-tabulate (suc n) f zero d h = refl
+getD-tabulate (suc n) f (suc k) d h = getD-tabulate n (λ k. f (suc k)) k d (le-of-suc-le-suc h)
+
+-- ---- places
+module _ (g : Geometry) {i : ℕ} (hi : i < g .b) where
+  pub role-at : (r : ℕ) → roleAt g (start g r + i) ≡ r
+  unfolding roleAt start
+  role-at r = digits-div r hi
+
+  pub column-at : (r : ℕ) → columnAt g (start g r + i) ≡ i
+  unfolding columnAt start
+  column-at r = digits-mod r hi
+
+  pub within : {r : ℕ} → r < g .n + 2 → start g r + i < size g
+  unfolding start
+  within hr = digits-lt hr hi
+
+-- ---- a store at a place changes one symbol of one column
+module _ (g : Geometry) (s : List ℕ) (v d : ℕ) {i : ℕ} (hi : i < g .b) where
+  pub stored-here : length s ≡ size g → d < g .n + 2 → column g (set s (start g d + i) v) i ≡ put d v (column g s i)
+  stored-here len hd =
+      by-role d
+      (getD-set-same s (start g d + i) v 0 (subst (λ (n : ℕ). start g d + i < n) (sym len) (within g hi hd))
+      ∙ sym (put-same d v (column g s i)))
+      (λ r h.
+      getD-set-other s (start g d + i) (start g r + i) v 0 (λ e. h (sym (role-at g hi r) ∙ ap (roleAt g) e ∙ role-at g hi d))
+      ∙ sym (put-other d v (column g s i) r h))
+
+  pub stored-elsewhere : {j : ℕ} → j < g .b → j ≢ i → column g (set s (start g d + i) v) j ≡ column g s j
+  stored-elsewhere {j} hj h =
+      fun-ext λ r.
+      getD-set-other s (start g d + i) (start g r + j) v 0
+      (λ e. h (sym (column-at g hj r) ∙ ap (columnAt g) e ∙ column-at g hi d))
+
+-- the length of a lifted stripe, and what stands at each place of it
+pub length-lift : (g : Geometry) (f : ℕ → Column → Column) (s : List ℕ) → length (lift g f s) ≡ length s
+unfolding lift
+length-lift g f s = length-tabulate (length s) (λ j. f (columnAt g j) (column g s (columnAt g j)) (roleAt g j))
+
+pub lift-at : (g : Geometry) (f : ℕ → Column → Column) (s : List ℕ) → length s ≡ size g → {i r : ℕ} → i < g .b → r < g .n + 2
+    → column g (lift g f s) i r ≡ f i (column g s i) r
+unfolding lift
+lift-at g f s len {i} {r} hi hr =
+    getD-tabulate (length s) (λ j. f (columnAt g j) (column g s (columnAt g j)) (roleAt g j)) (start g r + i) 0
+    (subst (λ (n : ℕ). start g r + i < n) (sym len) (within g hi hr))
+    ∙ ap₂ (λ (j t : ℕ). f j (column g s j) t) (column-at g hi r) (role-at g hi r)
+
+-- two stripes are the same where all their columns are
+pub by-columns : (g : Geometry) → 0 < g .b → (s t : List ℕ) → length s ≡ size g → length t ≡ size g
+    → ((i r : ℕ) → i < g .b → r < g .n + 2 → column g s i r ≡ column g t i r)
+    → s ≡ t
+unfolding start
+by-columns g pos s t hs ht same = ext-getD 0 s t (hs ∙ sym ht) at
+  where
+    at : (j : ℕ) → j < length s → getD s j 0 ≡ getD t j 0
+    at j h =
+        subst (λ (k : ℕ). getD s k 0 ≡ getD t k 0) (div-add-mod' j (g .b))
+        (same (j % g .b) (j / g .b) (mod-lt j pos) (div-lt-iff-lt-mul pos .1 (subst (λ (n : ℕ). j < n) hs h)))

@@ -1,0 +1,88 @@
+-- A loop that goes through the columns in order: those passed are new, the others old. Within a turn the column in hand is changed by
+-- stores. Five laws serve every such loop: none passed, a column taken in hand, a store in it, one more passed, and all.
+-- Assumes nothing.
+use mathlib.Core.Path.{_≡_, refl, sym, ap, _∙_}
+use mathlib.Core.Logic.{_⊎_, inl, inr, ⊎-elim}
+use mathlib.Core.List.{List}
+use Prim.Native.Nat.{ℕ, zero, suc, _+_, _≤_, _<_}
+use native.Mathlib.Nat.{not-suc-le-zero, le-refl, eq-or-lt-of-le}
+use native.Mathlib.Omega.{arith}
+use native.Mathlib.Decide.{decLt}
+use lib.ListN.{length, set, length-set}
+use Rattle.stripe.specs.declared.Geometry.{Geometry}
+use Rattle.stripe.specs.Column.{Column, put}
+use Rattle.stripe.specs.Stripe.{start, size, column, lift}
+use Rattle.stripe.proofs.Places.{stored-here, stored-elsewhere, length-lift, lift-at, by-columns}
+
+pub below-or-not : (i k : ℕ) → (i < k) ⊎ (k ≤ i)
+below-or-not i k = go (decLt i k)
+  where
+    go : Dec (i < k) → (i < k) ⊎ (k ≤ i)
+    go (yes p) = inl p
+    go (no p) = inr (omega arith)
+
+-- the columns below k are passed
+pub record Swept (g : Geometry) (f : ℕ → Column → Column) (s t : List ℕ) (k : ℕ) : Type 0 where
+  pub kept : length t ≡ length s
+  pub new : (i : ℕ) → i < k → i < g .b → column g t i ≡ f i (column g s i)
+  pub old : (i : ℕ) → k ≤ i → i < g .b → column g t i ≡ column g s i
+
+-- and column k, now c, is in hand
+pub record InHand (g : Geometry) (f : ℕ → Column → Column) (s t : List ℕ) (k : ℕ) (c : Column) : Type 0 where
+  pub kept : length t ≡ length s
+  pub inside : k < g .b
+  pub here : column g t k ≡ c
+  pub new : (i : ℕ) → i < k → i < g .b → column g t i ≡ f i (column g s i)
+  pub old : (i : ℕ) → k < i → i < g .b → column g t i ≡ column g s i
+
+module _ (g : Geometry) (f : ℕ → Column → Column) (s : List ℕ) where
+  -- from k on: the rule changes no column below it
+  pub sweep-from : (k : ℕ) → ((i : ℕ) → i < k → f i (column g s i) ≡ column g s i) → Swept g f s s k
+  sweep-from k same = record { kept = refl; new = λ i p q. sym (same i p); old = λ i p q. refl }
+
+  pub sweep-none : Swept g f s s 0
+  sweep-none = sweep-from 0 (λ i p. absurd (not-suc-le-zero p))
+
+  pub sweep-take : (t : List ℕ) (k : ℕ) → Swept g f s t k → k < g .b → InHand g f s t k (column g s k)
+  sweep-take t k swept h =
+      record {
+        kept = swept .kept;
+        inside = h;
+        here = swept .old k (le-refl k) h;
+        new = swept .new;
+        old = λ i p q. swept .old i (omega arith) q;
+      }
+
+  pub sweep-store : (t : List ℕ) (k : ℕ) (c : Column) (d v : ℕ) → InHand g f s t k c → length s ≡ size g → d < g .n + 2
+      → InHand g f s (set t (start g d + k) v) k (put d v c)
+  sweep-store t k c d v hand len hd =
+      record {
+        kept = length-set t (start g d + k) v ∙ hand .kept;
+        inside = hand .inside;
+        here = stored-here g t v d (hand .inside) (hand .kept ∙ len) hd ∙ ap (put d v) (hand .here);
+        new = λ i p q. stored-elsewhere g t v d (hand .inside) q (omega arith) ∙ hand .new i p q;
+        old = λ i p q. stored-elsewhere g t v d (hand .inside) q (omega arith) ∙ hand .old i p q;
+      }
+
+  pub sweep-pass : (t : List ℕ) (k : ℕ) (c : Column) → InHand g f s t k c → c ≡ f k (column g s k) → Swept g f s t (k + 1)
+  sweep-pass t k c hand e =
+      record {
+        kept = hand .kept;
+        new = λ i p q. ⊎-elim (λ m. rw m (hand .here ∙ e)) (λ l. hand .new i l q) (at-or-below i (omega arith));
+        old = λ i p q. hand .old i (omega arith) q;
+      }
+    where
+      at-or-below : (i : ℕ) → i ≤ k → (i ≡ k) ⊎ (i < k)
+      at-or-below i h = eq-or-lt-of-le h
+
+  -- up to k: the rule changes no column from there on
+  pub sweep-upto : (t : List ℕ) (k : ℕ) → Swept g f s t k → ((i : ℕ) → k ≤ i → i < g .b → f i (column g s i) ≡ column g s i)
+      → 0 < g .b
+      → length s ≡ size g
+      → t ≡ lift g f s
+  sweep-upto t k swept same pos len =
+      by-columns g pos t (lift g f s) (swept .kept ∙ len) (length-lift g f s ∙ len)
+      (λ i r hi hr. ap (λ (c : Column). c r) (⊎-elim (λ l. swept .new i l hi) (λ l. swept .old i l hi ∙ sym (same i l hi)) (below-or-not i k)) ∙ sym (lift-at g f s len hi hr))
+
+  pub sweep-all : (t : List ℕ) (k : ℕ) → Swept g f s t k → g .b ≤ k → 0 < g .b → length s ≡ size g → t ≡ lift g f s
+  sweep-all t k swept all = sweep-upto t k swept (λ i p q. absurd (omega arith))

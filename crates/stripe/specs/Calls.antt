@@ -1,0 +1,53 @@
+-- What each call answers and leaves in every buffer that it is lent, refused or done.
+use Prim.Native.Nat.{ℕ, zero, suc}
+use mathlib.Core.Path.{_≡_}
+use mathlib.Core.List.{List}
+use lib.ListN.{length}
+use Rattle.stripe.specs.declared.Geometry.{Geometry}
+use Rattle.stripe.specs.declared.Lost.{Lost}
+use Rattle.stripe.specs.declared.Checked.{Checked}
+use Rattle.stripe.specs.declared.Checked.the-variants.{Refused, Summary}
+use Rattle.stripe.specs.Stripe.{encoded, written, rebuilt, verdicts, summary}
+use Rattle.stripe.specs.Refusals.{encodeRefusal, writeRefusal, rebuildRefusal, checkRefusal}
+
+-- what is left in a buffer: `done` where the refusal is 0, else what it held
+abbrev pub unlessRefused : ℕ → List ℕ → List ℕ → List ℕ
+unlessRefused zero done before = done
+unlessRefused (suc k) done before = before
+
+-- the stripe after a call
+unfoldable pub afterEncode : Geometry → List ℕ → List ℕ
+afterEncode g s = unlessRefused (encodeRefusal g (length s)) (encoded g s) s
+
+unfoldable pub afterWrite : Geometry → ℕ → ℕ → List ℕ → List ℕ → List ℕ
+afterWrite g disk offset new s =
+    unlessRefused (writeRefusal g (length s) disk offset (length new)) (written g disk offset new s) s
+
+unfoldable pub afterRebuild : Geometry → Lost → List ℕ → List ℕ
+afterRebuild g lost s = unlessRefused (rebuildRefusal g (length s) lost) (rebuilt g lost s) s
+
+-- the verdict buffer after a check
+unfoldable pub afterCheck : Geometry → List ℕ → List ℕ → List ℕ
+afterCheck g s room = unlessRefused (checkRefusal g (length s) (length room)) (verdicts g s) room
+
+-- A check's answer: a refusal's number, or the summary.
+abbrev pub answered : ℕ → ℕ → Checked
+answered zero v = Summary v
+answered (suc k) v = Refused (suc k)
+
+-- ---- the contracts: the result r and the final buffers, each equal to its definition
+pub record EncodeCall (g : Geometry) (before : List ℕ) (r : ℕ) (after : List ℕ) : Type 0 where
+  pub result : r ≡ encodeRefusal g (length before)
+  pub stripe : after ≡ afterEncode g before
+
+pub record WriteCall (g : Geometry) (disk offset : ℕ) (new before : List ℕ) (r : ℕ) (after : List ℕ) : Type 0 where
+  pub result : r ≡ writeRefusal g (length before) disk offset (length new)
+  pub stripe : after ≡ afterWrite g disk offset new before
+
+pub record RebuildCall (g : Geometry) (lost : Lost) (before : List ℕ) (r : ℕ) (after : List ℕ) : Type 0 where
+  pub result : r ≡ rebuildRefusal g (length before) lost
+  pub stripe : after ≡ afterRebuild g lost before
+
+pub record CheckCall (g : Geometry) (s before : List ℕ) (r : Checked) (after : List ℕ) : Type 0 where
+  pub result : r ≡ answered (checkRefusal g (length s) (length before)) (summary (verdicts g s))
+  pub room : after ≡ afterCheck g s before

@@ -1,0 +1,6 @@
+pub mod Choice
+pub mod Column
+pub mod Stripe
+pub mod Refusals
+pub mod Calls
+pub mod Parts
