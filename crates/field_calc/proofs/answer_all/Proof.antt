@@ -1,0 +1,83 @@
+-- `field_calc::answer_all` is safe, ends and counts its answers: an answer never stands past the record that it answers.
+-- Assumes nothing.
+use Prim.Native.Nat.{_≤_, _-_}
+use mathlib.Core.Path.{_≡_, _∙_}
+use native.Mathlib.Omega.{arith}
+use borrow.Author.Needs.{needs}
+use lib.ListN.{length}
+use Rattle.io.proofs.Counting.{counts}
+use Rattle.field_calc.proofs.answer_all.Statement.{statement}
+use Rattle.field_calc.proofs.answer_all.Tie as tie
+
+abbrev Inv-loop : tie.InvT-loop
+Inv-loop records₀ at₀ count₀ records at count = (count ≤ at) × ((at ≤ length records₀) × (length records ≡ length records₀))
+
+abbrev μ-loop : tie.MeasureT-loop
+μ-loop records₀ at₀ count₀ records at count = length records₀ - at
+
+loop-holds : tie.Need-loop-holds Inv-loop μ-loop
+loop-holds c = search needs
+
+sub-loop : tie.Need-sub-loop Inv-loop μ-loop
+sub-loop c = search needs
+
+add-records : tie.Need-add-records Inv-loop μ-loop
+add-records c = search needs
+
+slice-read-records : tie.Need-slice-read-records Inv-loop μ-loop
+slice-read-records c = search needs
+
+slice-read-answer-one : tie.Need-slice-read-answer-one Inv-loop μ-loop
+slice-read-answer-one c = search needs
+
+add-number : tie.Need-add-number Inv-loop μ-loop
+add-number c = search needs
+
+number-requires : tie.Need-number-requires Inv-loop μ-loop
+number-requires c κs = search needs
+
+answer-one-requires : tie.Need-answer-one-requires Inv-loop μ-loop
+answer-one-requires c κs = search needs
+
+slice-write-records : tie.Need-slice-write-records Inv-loop μ-loop
+slice-write-records c = search needs
+
+add-at : tie.Need-add-at Inv-loop μ-loop
+add-at c = search needs
+
+add-count : tie.Need-add-count Inv-loop μ-loop
+add-count c = search needs
+
+loop-less : tie.Need-loop-less Inv-loop μ-loop
+loop-less c = search needs
+
+loop-again : tie.Need-loop-again Inv-loop μ-loop
+loop-again c = search needs
+
+same-length : tie.Need-same-length Inv-loop μ-loop
+same-length c = search needs
+
+returns : tie.Need-returns Inv-loop μ-loop
+returns c = counts _ _ (omega arith)
+
+pub answer-all-spec : {M : Type 1} → statement M
+answer-all-spec =
+    tie.close
+    (tie.spec
+    Inv-loop
+    μ-loop
+    loop-holds
+    sub-loop
+    add-records
+    slice-read-records
+    slice-read-answer-one
+    add-number
+    number-requires
+    answer-one-requires
+    slice-write-records
+    add-at
+    add-count
+    loop-less
+    loop-again
+    same-length
+    returns)
