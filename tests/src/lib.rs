@@ -1,0 +1,5 @@
+//! An independent implementation of the rules, written from the papers and not from the proved
+//! code, and what the tests need to hold the two against each other.
+
+pub mod field;
+pub mod program;
