@@ -1,5 +1,10 @@
 //! An independent implementation of the rules, written from the papers and not from the proved
 //! code, and what the tests need to hold the two against each other.
 
+pub mod column;
 pub mod field;
+pub mod job;
 pub mod program;
+pub mod random;
+pub mod stripe;
+pub mod table;
