@@ -11,6 +11,7 @@ ghost use Rattle.stripe.specs.Stripe.{start, column, rebuilt, verdicts, 
 ghost use Rattle.stripe.specs.Parts.{Whole, Sound, Known, Parities, Fills};
 ghost use Rattle.stripe.specs.Refusals.{encodeRefusal, unknown};
 ghost use Rattle.stripe.specs.Calls.{EncodeCall, RebuildCall, CheckCall};
+ghost use Rattle.stripe.specs.Codes.{namedBy, lossOf, RebuildNamedCall};
 ghost use Rattle.stripe.specs.Choice.{choose};
 
 pub struct Geometry {
@@ -27,6 +28,19 @@ pub enum Device {
 pub enum Lost {
     One(Device),
     Two(Device, Device),
+}
+
+// What a device code stands for.
+pub enum Named {
+    Device(Device),
+    Nothing,
+    Meaningless,
+}
+
+// What two codes name.
+pub enum Naming {
+    Loss(Lost),
+    Wrong,
 }
 
 // What a check answers: a refusal's number, or the first verdict that isn't 0, or 0.
@@ -61,6 +75,51 @@ pub fn rebuild(g: Geometry, stripe: &mut [u8], lost: Lost) -> u8
     match lost {
         Lost::One(device) => rebuild_one(g, stripe, device),
         Lost::Two(first, second) => rebuild_two(g, stripe, first, second),
+    }
+}
+
+// Rebuild with the devices given by their codes, as the job and C give them.
+pub fn rebuild_named(g: Geometry, stripe: &mut [u8], first: usize, second: usize) -> u8
+    ensures { λ r. ⌜ RebuildNamedCall g first second (now (stripe .entry)) r (now (stripe .exit)) ⌝ }
+{
+    match loss_of(decode(first), decode(second)) {
+        Naming::Loss(lost) => rebuild(g, stripe, lost),
+        Naming::Wrong => {
+            let refused = g.refusal(stripe.len());
+            if refused != 0 { refused } else { 4 }
+        }
+    }
+}
+
+fn decode(code: usize) -> Named
+    ensures { λ r. ⌜ r ≡ namedBy code ⌝ }
+{
+    if code < 255 {
+        return Named::Device(Device::Data(code));
+    }
+    if code == 256 {
+        return Named::Device(Device::P);
+    }
+    if code == 257 {
+        return Named::Device(Device::Q);
+    }
+    if code == 65535 {
+        return Named::Nothing;
+    }
+    Named::Meaningless
+}
+
+fn loss_of(first: Named, second: Named) -> Naming
+    ensures { λ r. ⌜ r ≡ lossOf first second ⌝ }
+{
+    match first {
+        Named::Device(d) => match second {
+            Named::Device(e) => Naming::Loss(Lost::Two(d, e)),
+            Named::Nothing => Naming::Loss(Lost::One(d)),
+            Named::Meaningless => Naming::Wrong,
+        },
+        Named::Nothing => Naming::Wrong,
+        Named::Meaningless => Naming::Wrong,
     }
 }
 
