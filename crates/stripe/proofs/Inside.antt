@@ -2,7 +2,7 @@
 -- Assumes nothing.
 use mathlib.Core.Path.{_≡_, sym, subst}
 use mathlib.Core.List.{List}
-use Prim.Native.Nat.{ℕ, _+_, _<_}
+use Prim.Native.Nat.{ℕ, suc, _+_, _≤_, _<_}
 use native.Mathlib.Omega.{arith}
 use lib.ListN.{length}
 use Rattle.stripe.specs.declared.Geometry.{Geometry}
@@ -10,13 +10,21 @@ use Rattle.stripe.specs.declared.Device.{Device}
 use Rattle.stripe.specs.declared.Device.the-variants.{Data, P, Q}
 use Rattle.stripe.specs.Column.{roleOf}
 use Rattle.stripe.specs.Stripe.{start}
-use Rattle.stripe.specs.Parts.{Sound, Known}
-use Rattle.stripe.proofs.Places.{within}
+use Rattle.stripe.specs.Parts.{Whole, Sound, Known, Stretch}
+use Rattle.stripe.proofs.Places.{within, block-end, start-mono, start-end}
 
 pub place-inside : (g : Geometry) (s : List ℕ) (i r p : ℕ) → Sound g s i → r < g .n + 2 → p ≡ start g r → p + i < length s
 place-inside g s i r p sound hr e =
     subst (λ (q : ℕ). q + i < length s) (sym e)
     (subst (λ (n : ℕ). start g r + i < n) (sym (sound .whole)) (within g (sound .inside) hr))
+
+pub stretch-inside : (g : Geometry) (s : List ℕ) (disk offset count p : ℕ) → Whole g s → Stretch g disk offset count → p ≡ start g disk
+    → p + offset + count ≤ length s
+stretch-inside g s disk offset count p whole stretch e =
+    let ends = block-end g disk in
+    let below = start-mono g {r = suc disk} {t = g .n + 2} (omega (arith, stretch .known)) in
+    let last = start-end g in
+    omega (arith, stretch .fits, whole .whole)
 
 pub known-role : (n : ℕ) (d : Device) → Known n d → roleOf n d < n + 2
 known-role n (Data k) h = omega arith

@@ -7,3 +7,4 @@ pub mod Weighted
 pub mod Inside
 pub mod Refused
 pub mod Summary
+pub mod Stretch

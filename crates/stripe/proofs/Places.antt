@@ -4,7 +4,7 @@ use mathlib.Core.Path.{_≡_, refl, sym, ap, ap₂, subst, fun-ext, _∙_}
 use mathlib.Core.Logic.{_≢_}
 use mathlib.Core.List.{List, [], _∷_}
 use Prim.Native.Nat.{ℕ, zero, suc, _+_, _*_, _/_, _%_, _≤_, _<_}
-use native.Mathlib.Nat.{le-of-suc-le-suc, not-suc-le-zero, div-add-mod', mod-lt, div-lt-iff-lt-mul}
+use native.Mathlib.Nat.{le-of-suc-le-suc, not-suc-le-zero, div-add-mod', mod-lt, div-lt-iff-lt-mul, suc-mul, mul-le-mul-right}
 use lib.Arith.{digits-div, digits-mod, digits-lt}
 use lib.ListN.{length, getD, set}
 use lib.Seq.{ext-getD, getD-set-same, getD-set-other}
@@ -39,6 +39,19 @@ module _ (g : Geometry) {i : ℕ} (hi : i < g .b) where
   pub within : {r : ℕ} → r < g .n + 2 → start g r + i < size g
   unfolding start
   within hr = digits-lt hr hi
+
+-- a block ends where the next one begins, and within the stripe
+pub block-end : (g : Geometry) (r : ℕ) → start g r + g .b ≡ start g (suc r)
+unfolding start
+block-end g r = sym (suc-mul r (g .b))
+
+pub start-mono : (g : Geometry) {r t : ℕ} → r ≤ t → start g r ≤ start g t
+unfolding start
+start-mono g h = mul-le-mul-right (g .b) h
+
+pub start-end : (g : Geometry) → start g (g .n + 2) ≡ size g
+unfolding start
+start-end g = refl
 
 -- ---- a store at a place changes one symbol of one column
 module _ (g : Geometry) (s : List ℕ) (v d : ℕ) {i : ℕ} (hi : i < g .b) where

@@ -16,9 +16,9 @@ use Rattle.stripe.specs.declared.Device.the-variants.{Data, P, Q}
 use Rattle.stripe.specs.declared.Lost.{Lost}
 use Rattle.stripe.specs.declared.Checked.the-variants.{Refused}
 use Rattle.stripe.specs.Choice.{choose, either}
-use Rattle.stripe.specs.Stripe.{size, rebuilt}
-use Rattle.stripe.specs.Refusals.{Refusal, unknown, firstOf, refusal1, refusal2, refusal3, encodeRefusal, rebuildRefusal}
-use Rattle.stripe.specs.Calls.{unlessRefused, answered, afterRebuild, RebuildCall}
+use Rattle.stripe.specs.Stripe.{size, written, rebuilt}
+use Rattle.stripe.specs.Refusals.{Refusal, unknown, firstOf, refusal1, refusal2, refusal3, encodeRefusal, writeRefusal, rebuildRefusal}
+use Rattle.stripe.specs.Calls.{unlessRefused, answered, afterRebuild, RebuildCall, afterWrite, WriteCall}
 use Rattle.stripe.specs.Parts.{Whole, Known}
 
 pub either-false : (a b : Bool) → either a b ≡ false → (a ≡ false) × (b ≡ false)
@@ -97,3 +97,17 @@ pub rebuild-done : (g : Geometry) (lost : Lost) (s t : List ℕ) → rebuildRefu
 unfolding afterRebuild
 rebuild-done g lost s t e h =
     record { result = sym e; stripe = h ∙ sym (left-done (rebuildRefusal g (length s) lost) (rebuilt g lost s) s e) }
+
+-- a call of write, refused and done
+pub write-refused : (g : Geometry) (disk offset : ℕ) (new s : List ℕ) (k : ℕ) → k ≢ 0 → k ≡ writeRefusal g (length s) disk offset (length new)
+    → WriteCall g disk offset new s k s
+unfolding afterWrite
+write-refused g disk offset new s k n e =
+    record { result = e; stripe = sym (left-alone (writeRefusal g (length s) disk offset (length new)) (written g disk offset new s) s (λ z. n (e ∙ z))) }
+
+pub write-done : (g : Geometry) (disk offset : ℕ) (new s t : List ℕ) → writeRefusal g (length s) disk offset (length new) ≡ 0
+    → t ≡ written g disk offset new s
+    → WriteCall g disk offset new s 0 t
+unfolding afterWrite
+write-done g disk offset new s t e h =
+    record { result = sym e; stripe = h ∙ sym (left-done (writeRefusal g (length s) disk offset (length new)) (written g disk offset new s) s e) }

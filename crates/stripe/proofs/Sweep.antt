@@ -75,6 +75,26 @@ module _ (g : Geometry) (f : ℕ → Column → Column) (s : List ℕ) where
       at-or-below : (i : ℕ) → i ≤ k → (i ≡ k) ⊎ (i < k)
       at-or-below i h = eq-or-lt-of-le h
 
+  -- a turn of one store, and one of two
+  pub sweep-one : (t : List ℕ) (k d v : ℕ) → Swept g f s t k → k < g .b → length s ≡ size g → d < g .n + 2
+      → put d v (column g s k) ≡ f k (column g s k)
+      → Swept g f s (set t (start g d + k) v) (k + 1)
+  sweep-one t k d v swept h len hd e =
+      sweep-pass (set t (start g d + k) v) k (put d v (column g s k))
+      (sweep-store t k (column g s k) d v (sweep-take t k swept h) len hd)
+      e
+
+  pub sweep-pair : (t : List ℕ) (k d v e w : ℕ) → Swept g f s t k → k < g .b → length s ≡ size g → d < g .n + 2 → e < g .n + 2
+      → put e w (put d v (column g s k)) ≡ f k (column g s k)
+      → Swept g f s (set (set t (start g d + k) v) (start g e + k) w) (k + 1)
+  sweep-pair t k d v e w swept h len hd he eq =
+      sweep-pass (set (set t (start g d + k) v) (start g e + k) w) k (put e w (put d v (column g s k)))
+      (sweep-store (set t (start g d + k) v) k (put d v (column g s k)) e w
+      (sweep-store t k (column g s k) d v (sweep-take t k swept h) len hd)
+      len
+      he)
+      eq
+
   -- up to k: the rule changes no column from there on
   pub sweep-upto : (t : List ℕ) (k : ℕ) → Swept g f s t k → ((i : ℕ) → k ≤ i → i < g .b → f i (column g s i) ≡ column g s i)
       → 0 < g .b

@@ -93,9 +93,11 @@ module _ (code : Code) where
   encodeColumn n c = put n (parityP n c) (put (n + 1) (parityQ n c) c)
 
   -- write: data disk k gets v, and what changed is added to P and, times the coefficient, to Q
+  abbrev pub adjustColumn : ℕ → ℕ → ℕ → Column → Column
+  adjustColumn n k v c = put n (sum (c n) (sum (c k) v)) (put (n + 1) (sum (c (n + 1)) (code .act k (sum (c k) v))) c)
+
   abbrev pub writeColumn : ℕ → ℕ → ℕ → Column → Column
-  writeColumn n k v c =
-      put k v (put n (sum (c n) (sum (c k) v)) (put (n + 1) (sum (c (n + 1)) (code .act k (sum (c k) v))) c))
+  writeColumn n k v c = put k v (adjustColumn n k v c)
 
   -- data disk x from equation 2 (equation 5)
   abbrev pub fromQ : ℕ → ℕ → Column → ℕ

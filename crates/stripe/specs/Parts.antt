@@ -1,13 +1,15 @@
 -- What the private functions ask and promise; no public contract rests on this file.
-use Prim.Native.Nat.{ℕ, _+_, _≤_, _<_}
+use Prim.Native.Nat.{ℕ, _+_, _-_, _≤_, _<_}
 use mathlib.Core.Path.{_≡_}
-use mathlib.Core.List.{List}
-use lib.ListN.{length}
+use mathlib.Core.List.{List, _++_}
+use lib.ListN.{length, getD, take, drop}
+use Rattle.gf256.specs.Field.{sum}
 use Rattle.stripe.specs.declared.Geometry.{Geometry}
 use Rattle.stripe.specs.declared.Device.{Device}
 use Rattle.stripe.specs.declared.Device.the-variants.{Data, P, Q}
-use Rattle.stripe.specs.Column.{Column, Bytes, parityP, parityQ, reedSolomon}
-use Rattle.stripe.specs.Stripe.{size}
+use Rattle.stripe.specs.Choice.{choose}
+use Rattle.stripe.specs.Column.{Column, Bytes, parityP, parityQ, adjustColumn, reedSolomon}
+use Rattle.stripe.specs.Stripe.{size, covers, lift}
 
 -- a stripe that meets what refusals 1 to 3 ask
 pub record Whole (g : Geometry) (s : List ℕ) : Type 0 where
@@ -38,3 +40,24 @@ pub record Parities (n : ℕ) (c : Column) (p q : ℕ) : Type 0 where
 pub record Fills (bytes : Bytes) (p q : ℕ) : Type 0 where
   pub first : p ≡ bytes .first
   pub second : q ≡ bytes .second
+
+-- the parities after a write, with the data still to come
+abbrev pub adjusted : Geometry → ℕ → ℕ → List ℕ → List ℕ → List ℕ
+adjusted g disk offset new s =
+    lift g
+    (λ i c. choose (covers offset (length new) i) (adjustColumn reedSolomon (g .n) disk (getD new (i - offset) 0) c) c)
+    s
+
+-- a stretch of a data disk that count bytes from an offset on fill
+pub record Stretch (g : Geometry) (disk offset count : ℕ) : Type 0 where
+  pub known : disk < g .n
+  pub fits : offset + count ≤ g .b
+
+-- a list with m in the place of what stood from a on
+abbrev pub spliced : List ℕ → ℕ → List ℕ → List ℕ
+spliced l a m = take a l ++ (m ++ drop (a + length m) l)
+
+-- p and q are P and Q after data disk k gets v
+pub record Changed (n k v : ℕ) (c : Column) (p q : ℕ) : Type 0 where
+  pub first : p ≡ sum (c n) (sum (c k) v)
+  pub second : q ≡ sum (c (n + 1)) (reedSolomon .act k (sum (c k) v))

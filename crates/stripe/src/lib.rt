@@ -8,9 +8,9 @@ ghost use lib.Dec.{eqb};
 ghost use lib.ListN.{length, set};
 ghost use Rattle.stripe.specs.Column.{put, roleOf, coefficientA, coefficientB, reedSolomon, newByte, newBytes, fromP, dataAndP, dataAndQ, twoData, verdict, verdictOf};
 ghost use Rattle.stripe.specs.Stripe.{start, column, rebuilt, verdicts, summary};
-ghost use Rattle.stripe.specs.Parts.{Whole, Sound, Known, Parities, Fills};
+ghost use Rattle.stripe.specs.Parts.{Whole, Sound, Stretch, adjusted, spliced, Changed, Known, Parities, Fills};
 ghost use Rattle.stripe.specs.Refusals.{encodeRefusal, unknown};
-ghost use Rattle.stripe.specs.Calls.{EncodeCall, RebuildCall, CheckCall};
+ghost use Rattle.stripe.specs.Calls.{EncodeCall, WriteCall, RebuildCall, CheckCall};
 ghost use Rattle.stripe.specs.Codes.{namedBy, lossOf, RebuildNamedCall};
 ghost use Rattle.stripe.specs.Choice.{choose};
 
@@ -62,6 +62,76 @@ pub fn encode(g: Geometry, stripe: &mut [u8]) -> u8
     }
     restore_two(g, stripe, Device::P, Device::Q);
     0
+}
+
+// Sets a stretch of one data disk, and adds what changed to P and Q, also where the stripe is not
+// encoded.
+pub fn write(g: Geometry, stripe: &mut [u8], disk: usize, offset: usize, new: &[u8]) -> u8
+    ensures { λ r. ⌜ WriteCall g disk offset (now (new .entry)) (now (stripe .entry)) r (now (stripe .exit)) ⌝ }
+{
+    let refused = g.refusal(stripe.len());
+    if refused != 0 {
+        return refused;
+    }
+    if g.n <= disk {
+        return 4;
+    }
+    if g.b < offset {
+        return 6;
+    }
+    if g.b - offset < new.len() {
+        return 6;
+    }
+    adjust(g, stripe, disk, offset, new);
+    set_stretch(g, stripe, disk, offset, new);
+    0
+}
+
+// Only the stretch is lent on, so that nothing around it can change.
+fn set_stretch(g: Geometry, stripe: &mut [u8], disk: usize, offset: usize, new: &[u8])
+    requires { ⌜ Whole g (now stripe) × Stretch g disk offset (length (now new)) ⌝ }
+    ensures { λ _. ⌜ now (stripe .exit) ≡ spliced (now (stripe .entry)) (start g disk + offset) (now (new .entry)) ⌝ }
+{
+    let from = g.start(disk) + offset;
+    let to = from + new.len();
+    copy(&mut stripe[from..to], new);
+}
+
+fn copy(to: &mut [u8], from: &[u8])
+    requires { ⌜ length (now to) ≡ length (now from) ⌝ }
+    ensures { λ _. ⌜ now (to .exit) ≡ now (from .entry) ⌝ }
+{
+    let mut i = 0;
+    while i < from.len() {
+        to[i] = from[i];
+        i += 1;
+    }
+}
+
+// P and Q of the columns that a write covers.
+fn adjust(g: Geometry, stripe: &mut [u8], disk: usize, offset: usize, new: &[u8])
+    requires { ⌜ Whole g (now stripe) × Stretch g disk offset (length (now new)) ⌝ }
+    ensures { λ _. ⌜ now (stripe .exit) ≡ adjusted g disk offset (now (new .entry)) (now (stripe .entry)) ⌝ }
+{
+    let mut j = 0;
+    while j < new.len() {
+        let i = offset + j;
+        let parity = changed(g, stripe, i, disk, new[j]);
+        store(g, stripe, i, g.n + 1, parity.1);
+        store(g, stripe, i, g.n, parity.0);
+        j += 1;
+    }
+}
+
+// P and Q of column i after data disk `disk` gets a new byte there.
+fn changed(g: Geometry, stripe: &[u8], i: usize, disk: usize, new: u8) -> Pair
+    requires { ⌜ Sound g (now stripe) i × (disk < g .n) ⌝ }
+    ensures { λ r. ⌜ Changed (g .n) disk new (column g (now (stripe .entry)) i) (r .0) (r .1) ⌝ }
+{
+    let change = byte(g, stripe, i, disk).sum(Element(new));
+    let p = byte(g, stripe, i, g.n).sum(change);
+    let q = byte(g, stripe, i, g.n + 1).sum(Element(2).power(disk as u64).product(change));
+    Pair(p.0, q.0)
 }
 
 // Replaces the bytes of the named devices by the only ones that fit.

@@ -5,11 +5,10 @@ use mathlib.Core.List.{List}
 use Prim.Native.Nat.{ℕ, _+_, _-_, _≤_, _<_}
 use native.Mathlib.Nat.{le-refl}
 use native.Mathlib.Omega.{arith}
-use lib.ListN.{set}
 use Rattle.stripe.proofs.Inside.{known-role}
-use Rattle.stripe.proofs.Sweep.{Swept, sweep-none, sweep-take, sweep-store, sweep-pass, sweep-all}
+use Rattle.stripe.proofs.Sweep.{Swept, sweep-none, sweep-one, sweep-all}
 use Rattle.stripe.specs.Column.{Column, put, roleOf, reedSolomon, newByte, rebuildColumn}
-use Rattle.stripe.specs.Stripe.{start, column}
+use Rattle.stripe.specs.Stripe.{column}
 use Rattle.stripe.specs.declared.Device.{Device}
 use Rattle.stripe.specs.declared.Geometry.{Geometry}
 use Rattle.stripe.specs.declared.Lost.the-variants.{One}
@@ -67,9 +66,8 @@ loop-again c =
     in (
       omega arith,
       subst (λ (l : List ℕ). Swept g f s l (at .i + 1)) (sym (c .before .before .store .ensures))
-          (sweep-pass g f s (set (at .stripe) (start g (role .result) + at .i) v) (at .i) (put (role .result) v e)
-          (sweep-store g f s (at .stripe) (at .i) e (role .result) v (sweep-take g f s (at .stripe) (at .i) (at .inv .1) inside) (here .pre .0 .whole)
-          (subst (λ (r : ℕ). r < g .n + 2) (sym (role .ensures)) (known-role (g .n) lost (here .pre .1))))
+          (sweep-one g f s (at .stripe) (at .i) (role .result) v (at .inv .1) inside (here .pre .0 .whole)
+          (subst (λ (r : ℕ). r < g .n + 2) (sym (role .ensures)) (known-role (g .n) lost (here .pre .1)))
           (ap₂ (λ (r w : ℕ). put r w e) (role .ensures) new)),
     )
 

@@ -7,7 +7,7 @@ use native.Mathlib.Nat.{le-refl}
 use native.Mathlib.Omega.{arith}
 use lib.ListN.{length, set, length-set}
 use Rattle.stripe.proofs.Inside.{known-role}
-use Rattle.stripe.proofs.Sweep.{Swept, InHand, sweep-none, sweep-take, sweep-store, sweep-pass, sweep-all}
+use Rattle.stripe.proofs.Sweep.{Swept, sweep-none, sweep-pair, sweep-all}
 use Rattle.stripe.specs.Column.{Column, Bytes, put, roleOf, reedSolomon, newBytes, rebuildColumn}
 use Rattle.stripe.specs.Stripe.{start, column}
 use Rattle.stripe.specs.declared.Device.{Device}
@@ -83,17 +83,13 @@ loop-again c =
     let inside = c .before .before .before .before .before .before .before .before .before .before .if1 .taken in
     let new = c .before .before .before .before .before .before .before .before .two in
     let e = column g s (at .i) in
-    let old = at .inv .1 .old (at .i) (le-refl (at .i)) inside in
-    let hand =
-    sweep-store g f s (at .stripe) (at .i) e (role2 .result) (new .result .1) (sweep-take g f s (at .stripe) (at .i) (at .inv .1) inside) (here .pre .0 .whole)
-    (subst (λ (r : ℕ). r < g .n + 2) (sym (role2 .ensures)) (known-role (g .n) second (here .pre .2)))
-    in
-    let stored = set (at .stripe) (start g (role2 .result) + at .i) (new .result .1) in (
+    let old = at .inv .1 .old (at .i) (le-refl (at .i)) inside in (
       omega arith,
-      subst (λ (l : List ℕ). Swept g f s l (at .i + 1)) (sym (c .before .before .store2 .ensures ∙ ap (λ (l : List ℕ). set l (start g (role .result) + at .i) (new .result .0)) (c .before .before .before .before .before .before .store .ensures)))
-          (sweep-pass g f s (set stored (start g (role .result) + at .i) (new .result .0)) (at .i) (put (role .result) (new .result .0) (put (role2 .result) (new .result .1) e))
-          (sweep-store g f s stored (at .i) (put (role2 .result) (new .result .1) e) (role .result) (new .result .0) hand (here .pre .0 .whole)
-          (subst (λ (r : ℕ). r < g .n + 2) (sym (role .ensures)) (known-role (g .n) first (here .pre .1))))
+      subst (λ (l : List ℕ). Swept g f s l (at .i + 1))
+          (sym (c .before .before .store2 .ensures ∙ ap (λ (l : List ℕ). set l (start g (role .result) + at .i) (new .result .0)) (c .before .before .before .before .before .before .store .ensures)))
+          (sweep-pair g f s (at .stripe) (at .i) (role2 .result) (new .result .1) (role .result) (new .result .0) (at .inv .1) inside (here .pre .0 .whole)
+          (subst (λ (r : ℕ). r < g .n + 2) (sym (role2 .ensures)) (known-role (g .n) second (here .pre .2)))
+          (subst (λ (r : ℕ). r < g .n + 2) (sym (role .ensures)) (known-role (g .n) first (here .pre .1)))
           (ap₂ (λ (r v : ℕ). put r v (put (role2 .result) (new .result .1) e)) (role .ensures) (new .ensures .first ∙ ap (λ (k : Column). newBytes reedSolomon (g .n) first second k .first) old)
           ∙ ap₂ (λ (r v : ℕ). put (roleOf (g .n) first) (newBytes reedSolomon (g .n) first second e .first) (put r v e)) (role2 .ensures) (new .ensures .second ∙ ap (λ (k : Column). newBytes reedSolomon (g .n) first second k .second) old))),
     )
