@@ -1,0 +1,4 @@
+pub mod Lawful
+pub mod ReedSolomon
+pub mod Columns
+pub mod Rebuild
