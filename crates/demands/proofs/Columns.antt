@@ -59,7 +59,7 @@ module _ (code : Code) (w m : ℕ) (laws : Lawful code w m) (n : ℕ) (few : n �
   difference c e hc he =
       record {
         first = ap₂ sum (hc .first) (he .first) ∙ sym (weighted-sum (λ k x. x) identity n c e);
-        second = ap₂ sum (hc .second) (he .second) ∙ sym (weighted-sum (code .act) (laws .act-sum) n c e)
+        second = ap₂ sum (hc .second) (he .second) ∙ sym (weighted-sum (code .act) (laws .act-sum) n c e);
       }
 
   -- an encoded column whose data are zero is zero
@@ -81,6 +81,7 @@ module _ (code : Code) (w m : ℕ) (laws : Lawful code w m) (n : ℕ) (few : n �
             ⊎-elim (λ e. sym (weighted-only (λ k v. v) identity n c x hx others) ∙ sym (h .first) ∙ e)
             (λ e. laws .act-only-zero x (c x) (omega arith) (symbols x) (sym (weighted-only (code .act) (laws .act-sum) n c x hx others) ∙ sym (h .second) ∙ e))
             parity
+
         go : Dec (k ≡ x) → c k ≡ 0
         go (yes e) = rw e here
         go (no ne) = others k hk ne
@@ -94,6 +95,7 @@ module _ (code : Code) (w m : ℕ) (laws : Lawful code w m) (n : ℕ) (few : n �
       where
         same : c x ≡ c y
         same = sum-only-zero (c x) (c y) (sym (weighted-two (λ k v. v) identity n c x y hx hy apart others) ∙ sym (h .first) ∙ p)
+
         here : c y ≡ 0
         here =
             laws .pair-only-zero x y (c y) (omega arith) (omega arith) apart (symbols y)
@@ -101,6 +103,7 @@ module _ (code : Code) (w m : ℕ) (laws : Lawful code w m) (n : ℕ) (few : n �
             ∙ sym (weighted-two (code .act) (laws .act-sum) n c x y hx hy apart others)
             ∙ sym (h .second)
             ∙ q)
+
         go : Dec (k ≡ x) → Dec (k ≡ y) → c k ≡ 0
         go (yes e) f = rw e (same ∙ here)
         go (no e) (yes f) = rw f here
@@ -117,6 +120,7 @@ module _ (code : Code) (w m : ℕ) (laws : Lawful code w m) (n : ℕ) (few : n �
             at : Dec (y ≡ n) → (c n ≡ 0) ⊎ (c (n + 1) ≡ 0)
             at (yes e) = inr (outside (n + 1) (omega arith) (omega arith) (omega arith))
             at (no e) = inl (outside n (omega arith) (omega arith) (λ f. e (sym f)))
+
         go : Dec (x < n) → Dec (y < n) → Dec (x ≡ y) → (k : ℕ) → k < n → c k ≡ 0
         go (yes p) (yes q) (yes e) = lone x p (λ k hk ne. outside k (omega arith) ne (λ f. ne (f ∙ sym e))) (inl (outside n (omega arith) (omega arith) (omega arith)))
         go (yes p) (yes q) (no e) =
@@ -139,6 +143,14 @@ module _ (code : Code) (w m : ℕ) (laws : Lawful code w m) (n : ℕ) (few : n �
       r
       hr)
 
+  -- an encoded column stays so where it agrees on every device
+  pub encoded-same : (c e : Column) → ((r : ℕ) → r < n + 2 → c r ≡ e r) → Encoded code n c → Encoded code n e
+  encoded-same c e same h =
+      record {
+        first = sym (same n (omega arith)) ∙ h .first ∙ total-same n (λ k p. same k (omega arith));
+        second = sym (same (n + 1) (omega arith)) ∙ h .second ∙ total-same n (λ k p. ap (code .act k) (same k (omega arith)));
+      }
+
   -- ---- encode
   pub encode-data : (c : Column) (k : ℕ) → k < n → encodeColumn code n c k ≡ c k
   encode-data c k h =
@@ -151,11 +163,15 @@ module _ (code : Code) (w m : ℕ) (laws : Lawful code w m) (n : ℕ) (few : n �
         second =
             put-other n (parityP n c) (put (n + 1) (parityQ code n c) c) (n + 1) (omega arith)
             ∙ put-same (n + 1) (parityQ code n c) c
-            ∙ sym (data-same (code .act))
+            ∙ sym (data-same (code .act));
       }
     where
       data-same : (t : ℕ → ℕ → ℕ) → weighted t n (encodeColumn code n c) ≡ weighted t n c
       data-same t = total-same n (λ k p. ap (t k) (encode-data c k p))
+
+  pub encode-fixed : (c : Column) → Encoded code n c → encodeColumn code n c ≡ c
+  encode-fixed c h =
+      ap₂ (λ (p q : ℕ). put n p (put (n + 1) q c)) (sym (h .first)) (sym (h .second)) ∙ ap (put n (c n)) (put-back (n + 1) c) ∙ put-back n c
 
   -- ---- write: P* and Q* stay, and the data are as asked
   module _ (c : Column) (k v : ℕ) (hk : k < n) where

@@ -22,7 +22,7 @@ use Rattle.stripe.proofs.Total.{total-same, total-lt}
 use Rattle.stripe.proofs.Weighted.{Additive, weighted, weighted-put, weighted-outside}
 use Rattle.demands.specs.Loss.{Spared, Sound-loss, Meets}
 use Rattle.demands.proofs.Lawful.{Lawful}
-use Rattle.demands.proofs.Columns.{Symbols, put-symbols, encode-encoded, unique}
+use Rattle.demands.proofs.Columns.{Symbols, put-symbols, encode-encoded, encoded-same, unique}
 
 -- ---- no other device changes
 pub rebuild-spares : (code : Code) (n : ℕ) (l : Lost) (c : Column) (r : ℕ) → Spared n l r → rebuildColumn code n l c r ≡ c r
@@ -117,11 +117,12 @@ module _ (code : Code) (w m : ℕ) (laws : Lawful code w m) (n : ℕ) (few : n �
             (behind (code .act) n x d n p c (omega arith)
             ∙ from-equation (code .act) (laws .act-sum) x d (c (n + 1)) c hx
             (laws .undo-act x (sum (c (n + 1)) (parityQ code n (put x 0 c))) (omega arith)
-            (xor-lt w (c (n + 1)) (parityQ code n (put x 0 c)) (h (n + 1)) (parityQ-lt (put x 0 c) (cleared x c h)))))
+            (xor-lt w (c (n + 1)) (parityQ code n (put x 0 c)) (h (n + 1)) (parityQ-lt (put x 0 c) (cleared x c h)))));
       }
     where
       d : ℕ
       d = fromQ code n x c
+
       p : ℕ
       p = parityP n (put x d c)
 
@@ -132,11 +133,12 @@ module _ (code : Code) (w m : ℕ) (laws : Lawful code w m) (n : ℕ) (few : n �
             put-other x d (put (n + 1) q c) n (omega arith)
             ∙ put-other (n + 1) q c n (omega arith)
             ∙ sym (behind (λ k v. v) n x d (n + 1) q c (omega arith) ∙ from-equation (λ k v. v) identity x d (c n) c hx refl);
-        second = put-other x d (put (n + 1) q c) (n + 1) (omega arith) ∙ put-same (n + 1) q c ∙ sym (behind (code .act) n x d (n + 1) q c (omega arith))
+        second = put-other x d (put (n + 1) q c) (n + 1) (omega arith) ∙ put-same (n + 1) q c ∙ sym (behind (code .act) n x d (n + 1) q c (omega arith));
       }
     where
       d : ℕ
       d = fromP n x c
+
       q : ℕ
       q = parityQ code n (put x d c)
 
@@ -162,13 +164,15 @@ module _ (code : Code) (w m : ℕ) (laws : Lawful code w m) (n : ℕ) (few : n �
             ∙ sym
             (apart (code .act) (laws .act-sum) x y d e c hx hy ne
             ∙ ap (sum (parityQ code n (put x 0 (put y 0 c)))) (sum-comm (code .act y e) (code .act x d) ∙ laws .split-act x y (restP n x y c) (restQ code n x y c) (omega arith) (omega arith) ne (restP-lt x y c h) (restQ-lt x y c h))
-            ∙ around (parityQ code n (put x 0 (put y 0 c))) (c (n + 1)))
+            ∙ around (parityQ code n (put x 0 (put y 0 c))) (c (n + 1)));
       }
     where
       d : ℕ
       d = fromBoth code n x y c
+
       e : ℕ
       e = sum (restP n x y c) d
+
       outside : (r : ℕ) → n ≤ r → put x d (put y e c) r ≡ c r
       outside r p = put-other x d (put y e c) r (omega arith) ∙ put-other y e c r (omega arith)
 
@@ -244,6 +248,12 @@ module _ (code : Code) (w m : ℕ) (laws : Lawful code w m) (n : ℕ) (few : n �
       rebuild-only c (rebuildColumn code n (Two e d) c) (Two d e) hc (rebuild-symbols (Two e d) c hc) s
       (λ r hr sp. rebuild-spares code n (Two e d) c r (sp .1, sp .0))
       (rebuild-meets (Two e d) c hc (s .1, s .0, λ q. s .2 (sym q)))
+
+  pub meets-same : (l : Lost) (c e : Column) → ((r : ℕ) → r < n + 2 → c r ≡ e r) → Meets code n l c → Meets code n l e
+  meets-same (One (Data x)) c e same h = sym (same n (omega arith)) ∙ h ∙ total-same n (λ k p. same k (omega arith))
+  meets-same (One P) c e same h = sym (same n (omega arith)) ∙ h ∙ total-same n (λ k p. same k (omega arith))
+  meets-same (One Q) c e same h = sym (same (n + 1) (omega arith)) ∙ h ∙ total-same n (λ k p. ap (code .act k) (same k (omega arith)))
+  meets-same (Two d f) c e same h = encoded-same code w m laws n few c e same h
 
   -- an encoded column meets whatever a rebuild uses, so a loss and its rebuild bring it back
   encoded-meets : (l : Lost) (c : Column) → Encoded code n c → Meets code n l c

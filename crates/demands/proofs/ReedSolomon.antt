@@ -24,8 +24,10 @@ undone k q h =
 module _ (x y : ℕ) (hx : x < 255) (hy : y < 255) (other : x ≢ y) where
   abbrev gx : ℕ
   gx = power 2 x
+
   abbrev gy : ℕ
   gy = power 2 y
+
   abbrev scale : ℕ
   scale = inverse (sum (ratio y x) 1)
 
@@ -94,5 +96,5 @@ reed-solomon =
       undo-closed = λ k q h. product-lt (inverse (power 2 k)) q;
       split-act = λ x y p q hx hy n hp hq. split-law x y hx hy n p q hp hq;
       split-closed = λ x y p q hp hq.
-          xor-lt 8 (product (coefficientA x y) p) (product (coefficientB x y) q) (product-lt (coefficientA x y) p) (product-lt (coefficientB x y) q)
+          xor-lt 8 (product (coefficientA x y) p) (product (coefficientB x y) q) (product-lt (coefficientA x y) p) (product-lt (coefficientB x y) q);
     }

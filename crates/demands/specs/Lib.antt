@@ -1,1 +1,2 @@
 pub mod Loss
+pub mod Series

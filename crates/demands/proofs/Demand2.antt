@@ -1,0 +1,188 @@
+-- Demand 2, over the definitions that the contracts of encode, write and rebuild cite, for every stripe of bytes and every accepted call.
+-- Each statement is that of `Columns` or `Rebuild` at every column.
+-- Assumes nothing.
+use mathlib.Core.Path.{_≡_, refl, sym, ap, ap₂, subst, _∙_}
+use mathlib.Core.Logic.{_≢_}
+use mathlib.Core.Bool.{Bool, true, false}
+use mathlib.Core.List.{List}
+use Prim.Native.Nat.{ℕ, _+_, _-_, _≤_, _<_}
+use native.Mathlib.Omega.{arith}
+use lib.ListN.{length, getD}
+use Rattle.stripe.specs.declared.Geometry.{Geometry}
+use Rattle.stripe.specs.declared.Device.{Device}
+use Rattle.stripe.specs.declared.Device.the-variants.{P, Q}
+use Rattle.stripe.specs.declared.Lost.{Lost}
+use Rattle.stripe.specs.declared.Lost.the-variants.{One, Two}
+use Rattle.stripe.specs.Choice.{choose}
+use Rattle.stripe.specs.Column.{Column, Encoded, encodeColumn, writeColumn, rebuildColumn, reedSolomon}
+use Rattle.stripe.specs.Stripe.{size, column, covers, lift, encoded, written, rebuilt}
+use Rattle.stripe.specs.Refusals.{encodeRefusal, writeRefusal, rebuildRefusal}
+use Rattle.stripe.specs.Calls.{afterEncode, afterWrite, afterRebuild}
+use Rattle.stripe.specs.Parts.{Whole}
+use Rattle.stripe.proofs.Places.{length-lift, lift-at, by-columns}
+use Rattle.stripe.proofs.Refused.{shape-whole}
+use Rattle.demands.specs.Loss.{Spared, Sound-loss, Meets}
+use Rattle.demands.specs.Series.{Bytes, EncodedStripe}
+use Rattle.demands.proofs.ReedSolomon.{reed-solomon}
+use Rattle.demands.proofs.Columns.{encode-data, encode-encoded, encode-fixed, encoded-same}
+use Rattle.demands.proofs.Rebuild.{rebuild-spares, rebuild-meets, rebuild-only, rebuild-blind, rebuild-order, meets-same}
+use Rattle.demands.proofs.ColumnSeries.{set, moved-same}
+use Rattle.demands.proofs.Bytes.{columns-symbols}
+use Rattle.demands.proofs.Accepted.{encode-done, write-accepted, write-done, rebuild-accepted, rebuild-done}
+
+-- ---- encode
+module _ (g : Geometry) (s : List ℕ) (fits : encodeRefusal g (length s) ≡ 0) where
+  whole : Whole g s
+  whole = shape-whole g (length s) fits s refl
+
+  after-encode : (i r : ℕ) → i < g .b → r < g .n + 2 → column g (afterEncode g s) i r ≡ encodeColumn reedSolomon (g .n) (column g s i) r
+  after-encode i r hi hr =
+      ap (λ (l : List ℕ). column g l i r) (encode-done g s fits) ∙ lift-at g (λ i c. encodeColumn reedSolomon (g .n) c) s (whole .whole) hi hr
+
+  -- both equations hold at every column, and the data are as before
+  pub encode-meets : EncodedStripe g (afterEncode g s)
+  encode-meets i hi =
+      encoded-same reedSolomon 8 255 reed-solomon (g .n) (whole .disks) (encodeColumn reedSolomon (g .n) (column g s i)) (column g (afterEncode g s) i)
+      (λ r hr. sym (after-encode i r hi hr))
+      (encode-encoded reedSolomon 8 255 reed-solomon (g .n) (whole .disks) (column g s i))
+
+  pub encode-keeps-data : (i k : ℕ) → i < g .b → k < g .n → column g (afterEncode g s) i k ≡ column g s i k
+  encode-keeps-data i k hi hk =
+      after-encode i k hi (omega arith) ∙ encode-data reedSolomon 8 255 reed-solomon (g .n) (whole .disks) (column g s i) k hk
+
+  encode-length : length (afterEncode g s) ≡ length s
+  encode-length = ap length (encode-done g s fits) ∙ length-lift g (λ i c. encodeColumn reedSolomon (g .n) c) s
+
+  -- an encoded stripe is left as it is
+  pub encode-again : EncodedStripe g s → afterEncode g s ≡ s
+  encode-again enc =
+      by-columns g (whole .some) (afterEncode g s) s (encode-length ∙ whole .whole) (whole .whole)
+      (λ i r hi hr.
+      after-encode i r hi hr ∙ ap (λ (c : Column). c r) (encode-fixed reedSolomon 8 255 reed-solomon (g .n) (whole .disks) (column g s i) (enc i hi)))
+
+-- ---- rebuild: what an accepted call promises of the stripe that it leaves
+pub record Rebuilt (g : Geometry) (l : Lost) (s : List ℕ) : Type 0 where
+  -- no other device changes
+  pub spares : (i r : ℕ) → i < g .b → r < g .n + 2 → Spared (g .n) l r → column g (afterRebuild g l s) i r ≡ column g s i r
+  -- the new bytes meet the equations used, with two devices named both
+  pub meets : (i : ℕ) → i < g .b → Meets reedSolomon (g .n) l (column g (afterRebuild g l s) i)
+  -- and are the only ones that do so with the survivors
+  pub only : (t : List ℕ) → Bytes t → length t ≡ length s
+      → ((i r : ℕ) → i < g .b → r < g .n + 2 → Spared (g .n) l r → column g t i r ≡ column g s i r)
+      → ((i : ℕ) → i < g .b → Meets reedSolomon (g .n) l (column g t i))
+      → t ≡ afterRebuild g l s
+  -- what stood on the named devices has no influence
+  pub blind : (t : List ℕ) → Bytes t → length t ≡ length s
+      → ((i r : ℕ) → i < g .b → r < g .n + 2 → Spared (g .n) l r → column g t i r ≡ column g s i r)
+      → afterRebuild g l t ≡ afterRebuild g l s
+
+module _ (g : Geometry) (l : Lost) (s : List ℕ) (bytes : Bytes s) (accepted : rebuildRefusal g (length s) l ≡ 0) where
+  sound : Sound-loss (g .n) l
+  sound = rebuild-accepted g (length s) l accepted .1
+
+  fitting : Whole g s
+  fitting = shape-whole g (length s) (rebuild-accepted g (length s) l accepted .0) s refl
+
+  abbrev rule : ℕ → Column → Column
+  rule i c = rebuildColumn reedSolomon (g .n) l c
+
+  rebuild-length : length (afterRebuild g l s) ≡ length s
+  rebuild-length = ap length (rebuild-done g l s accepted) ∙ length-lift g rule s
+
+  pub after-rebuild : (i r : ℕ) → i < g .b → r < g .n + 2 → column g (afterRebuild g l s) i r ≡ rebuildColumn reedSolomon (g .n) l (column g s i) r
+  after-rebuild i r hi hr = ap (λ (t : List ℕ). column g t i r) (rebuild-done g l s accepted) ∙ lift-at g rule s (fitting .whole) hi hr
+
+module _ (g : Geometry) (l : Lost) (s : List ℕ) (bytes : Bytes s) (accepted : rebuildRefusal g (length s) l ≡ 0) where
+  pub demand2 : Rebuilt g l s
+  demand2 =
+      record {
+        spares = λ i r hi hr sp. after-rebuild g l s bytes accepted i r hi hr ∙ rebuild-spares reedSolomon (g .n) l (column g s i) r sp;
+        meets = λ i hi.
+            meets-same reedSolomon 8 255 reed-solomon (g .n) few l (rebuildColumn reedSolomon (g .n) l (column g s i)) (column g (afterRebuild g l s) i)
+            (λ r hr. sym (after-rebuild g l s bytes accepted i r hi hr))
+            (rebuild-meets reedSolomon 8 255 reed-solomon (g .n) few l (column g s i) (columns-symbols g s bytes i) (sound g l s bytes accepted));
+        only = λ t ht len agree meets.
+            by-columns g (fit .some) t (afterRebuild g l s) (len ∙ fit .whole) (rebuild-length g l s bytes accepted ∙ fit .whole)
+            (λ i r hi hr.
+            rebuild-only reedSolomon 8 255 reed-solomon (g .n) few (column g s i) (column g t i) l (columns-symbols g s bytes i) (columns-symbols g t ht i) (sound g l s bytes accepted) (λ q hq sp. agree i q hi hq sp) (meets i hi) r hr
+            ∙ sym (after-rebuild g l s bytes accepted i r hi hr));
+        blind = λ t ht len agree.
+            let also : rebuildRefusal g (length t) l ≡ 0 = ap (λ (n : ℕ). rebuildRefusal g n l) len ∙ accepted in
+            by-columns g (fit .some) (afterRebuild g l t) (afterRebuild g l s) (rebuild-length g l t ht also ∙ len ∙ fit .whole) (rebuild-length g l s bytes accepted ∙ fit .whole)
+            (λ i r hi hr.
+            after-rebuild g l t ht also i r hi hr
+            ∙ rebuild-blind reedSolomon 8 255 reed-solomon (g .n) few l (column g s i) (column g t i) (columns-symbols g s bytes i) (columns-symbols g t ht i) (sound g l s bytes accepted) (λ q hq sp. agree i q hi hq sp) r hr
+            ∙ sym (after-rebuild g l s bytes accepted i r hi hr));
+      }
+    where
+      fit : Whole g s
+      fit = fitting g l s bytes accepted
+
+      few : g .n ≤ 255
+      few = fit .disks
+
+-- the order of the two names doesn't matter
+pub names-in-any-order : (g : Geometry) (d e : Device) (s : List ℕ) → Bytes s → rebuildRefusal g (length s) (Two d e) ≡ 0 → rebuildRefusal g (length s) (Two e d) ≡ 0
+    → afterRebuild g (Two e d) s ≡ afterRebuild g (Two d e) s
+names-in-any-order g d e s bytes accepted also =
+    by-columns g (fit .some) (afterRebuild g (Two e d) s) (afterRebuild g (Two d e) s) (rebuild-length g (Two e d) s bytes also ∙ fit .whole) (rebuild-length g (Two d e) s bytes accepted ∙ fit .whole)
+    (λ i r hi hr.
+    after-rebuild g (Two e d) s bytes also i r hi hr
+    ∙ rebuild-order reedSolomon 8 255 reed-solomon (g .n) (fit .disks) d e (column g s i) (columns-symbols g s bytes i) (sound g (Two d e) s bytes accepted) r hr
+    ∙ sym (after-rebuild g (Two d e) s bytes accepted i r hi hr))
+  where
+    fit : Whole g s
+    fit = fitting g (Two d e) s bytes accepted
+
+-- ---- after an accepted call column i depends on the earlier column i, the call's numbers and, for a write, the new byte there
+abbrev pub SameColumn : Geometry → ℕ → List ℕ → List ℕ → Type 0
+SameColumn g i s t = (r : ℕ) → r < g .n + 2 → column g s i r ≡ column g t i r
+
+pub encode-local : (g : Geometry) (s t : List ℕ) → Bytes s → Bytes t → length t ≡ length s → encodeRefusal g (length s) ≡ 0 → (i : ℕ) → i < g .b
+    → SameColumn g i s t
+    → SameColumn g i (afterEncode g s) (afterEncode g t)
+encode-local g s t hs ht len fits i hi same r hr =
+    after-encode g s fits i r hi hr
+    ∙ rebuild-blind reedSolomon 8 255 reed-solomon (g .n) (whole g s fits .disks) (Two P Q) (column g t i) (column g s i) (columns-symbols g t ht i) (columns-symbols g s hs i) (tt, tt, omega arith) (λ q hq sp. same q hq) r hr
+    ∙ sym (after-encode g t (ap (encodeRefusal g) len ∙ fits) i r hi hr)
+
+pub rebuild-local : (g : Geometry) (l : Lost) (s t : List ℕ) → Bytes s → Bytes t → length t ≡ length s → rebuildRefusal g (length s) l ≡ 0 → (i : ℕ) → i < g .b
+    → SameColumn g i s t
+    → SameColumn g i (afterRebuild g l s) (afterRebuild g l t)
+rebuild-local g l s t hs ht len accepted i hi same r hr =
+    after-rebuild g l s hs accepted i r hi hr
+    ∙ rebuild-blind reedSolomon 8 255 reed-solomon (g .n) (fitting g l s hs accepted .disks) l (column g t i) (column g s i) (columns-symbols g t ht i) (columns-symbols g s hs i) (sound g l s hs accepted) (λ q hq sp. same q hq) r hr
+    ∙ sym (after-rebuild g l t ht (ap (λ (n : ℕ). rebuildRefusal g n l) len ∙ accepted) i r hi hr)
+
+pub write-local : (g : Geometry) (disk offset : ℕ) (new other s t : List ℕ) → Bytes s → Bytes t → Bytes new → length t ≡ length s → length other ≡ length new
+    → writeRefusal g (length s) disk offset (length new) ≡ 0
+    → (i : ℕ)
+    → i < g .b
+    → getD new (i - offset) 0 ≡ getD other (i - offset) 0
+    → SameColumn g i s t
+    → SameColumn g i (afterWrite g disk offset new s) (afterWrite g disk offset other t)
+write-local g disk offset new other s t hs ht hn len count accepted i hi byte same r hr =
+    ap (λ (l : List ℕ). column g l i r) (write-done g disk offset new s accepted)
+    ∙ lift-at g (rule new) s (fit .whole) hi hr
+    ∙ at (covers offset (length new) i)
+    ∙ ap (λ (n : ℕ). choose (covers offset n i) (writeColumn reedSolomon (g .n) disk (getD other (i - offset) 0) (column g t i)) (column g t i) r) (sym count)
+    ∙ sym
+    (ap (λ (l : List ℕ). column g l i r)
+    (write-done g disk offset other t (ap₂ (λ (n c : ℕ). writeRefusal g n disk offset c) len count ∙ accepted))
+    ∙ lift-at g (rule other) t (len ∙ fit .whole) hi hr)
+  where
+    rule : List ℕ → ℕ → Column → Column
+    rule new i c = choose (covers offset (length new) i) (writeColumn reedSolomon (g .n) disk (getD new (i - offset) 0) c) c
+
+    numbers : (encodeRefusal g (length s) ≡ 0) × (disk < g .n) × (offset ≤ g .b) × (length new ≤ g .b - offset)
+    numbers = write-accepted g (length s) disk offset (length new) accepted
+
+    fit : Whole g s
+    fit = shape-whole g (length s) (numbers .0) s refl
+
+    at : (b : Bool) → choose b (writeColumn reedSolomon (g .n) disk (getD new (i - offset) 0) (column g s i)) (column g s i) r
+        ≡ choose b (writeColumn reedSolomon (g .n) disk (getD other (i - offset) 0) (column g t i)) (column g t i) r
+    at true =
+        moved-same reedSolomon 8 255 reed-solomon (g .n) (fit .disks) (set disk (getD new (i - offset) 0)) (Unit {0}) (column g s i) (column g t i) (numbers .1, hn (i - offset)) (columns-symbols g s hs i) (columns-symbols g t ht i) same r hr
+        ∙ ap (λ (v : ℕ). writeColumn reedSolomon (g .n) disk v (column g t i) r) byte
+    at false = same r hr
