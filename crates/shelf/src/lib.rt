@@ -1,0 +1,46 @@
+// What the shelf's controller, written in C, calls: include/shelf.h says it in C's terms. Every
+// number is 64 bits wide, and no premise is put on the caller.
+use stripe::Geometry;
+ghost use Rattle.stripe.specs.Calls.{EncodeCall, WriteCall};
+ghost use Rattle.stripe.specs.Codes.{RebuildNamedCall};
+ghost use Rattle.shelf.specs.Shape.{shape};
+
+#[no_mangle]
+pub extern "C" fn shelf_encode(n: u64, b: u64, stripe: &mut [u8]) -> u8
+    ensures { λ r. ⌜ EncodeCall (shape n b) (now (stripe .entry)) r (now (stripe .exit)) ⌝ }
+{
+    let g = Geometry {
+        n: n as usize,
+        b: b as usize,
+    };
+    stripe::encode(g, stripe)
+}
+
+#[no_mangle]
+pub extern "C" fn shelf_write(
+    n: u64,
+    b: u64,
+    stripe: &mut [u8],
+    disk: u64,
+    offset: u64,
+    bytes: &[u8],
+) -> u8
+    ensures { λ r. ⌜ WriteCall (shape n b) disk offset (now (bytes .entry)) (now (stripe .entry)) r (now (stripe .exit)) ⌝ }
+{
+    let g = Geometry {
+        n: n as usize,
+        b: b as usize,
+    };
+    stripe::write(g, stripe, disk as usize, offset as usize, bytes)
+}
+
+#[no_mangle]
+pub extern "C" fn shelf_rebuild(n: u64, b: u64, stripe: &mut [u8], first: u64, second: u64) -> u8
+    ensures { λ r. ⌜ RebuildNamedCall (shape n b) first second (now (stripe .entry)) r (now (stripe .exit)) ⌝ }
+{
+    let g = Geometry {
+        n: n as usize,
+        b: b as usize,
+    };
+    stripe::rebuild_named(g, stripe, first as usize, second as usize)
+}
