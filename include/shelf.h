@@ -1,0 +1,117 @@
+/*
+ * A RAID-6 stripe: n data disks with the parities P and Q, in one buffer that the caller lends.
+ *
+ * Layout. A stripe of n data disks and block size b is (n + 2) * b bytes: data disk k stands at k * b, P at n * b and
+ * Q at (n + 1) * b. Byte i of every block is column i, and each call treats every column by itself.
+ *
+ * Parities. In each column P = D0 + D1 + ... and Q = the sum of 02^k * Dk, in the field of bytes modulo
+ * x^8 + x^4 + x^3 + x^2 + 1, where a sum is exclusive or. A stripe that meets both equations is encoded.
+ *
+ * Numbers. All are 64 bits wide and are taken whole: none is cut to fit, and any value may be passed.
+ *
+ * Results. 0 is done. Any other result is the number of a refusal, listed with each call in the order in which the
+ * tests are made: the first that applies is returned. A refused call changes nothing. Whether a call is refused depends
+ * on its numbers and lengths alone, never on the bytes of a buffer.
+ *
+ * Buffers. A length is in bytes and is that of the buffer behind the pointer. A pointer may be null only where its
+ * length is 0. Buffers need no alignment. No call reads or writes outside of them or keeps a pointer. Calls allocate
+ * nothing, hold no state and may run at the same time on different stripes.
+ */
+#ifndef SHELF_H
+#define SHELF_H
+
+#include <stddef.h>
+#include <stdint.h>
+
+#ifdef __cplusplus
+extern "C" {
+#endif
+
+/* Results. */
+#define SHELF_DONE 0
+#define SHELF_BAD_DISKS 1    /* n is 0 or above 255 */
+#define SHELF_BAD_BLOCK 2    /* b is 0 or above 4096 */
+#define SHELF_BAD_LENGTH 3   /* stripe_len isn't (n + 2) * b */
+#define SHELF_BAD_DEVICE 4   /* a data disk is n or more, or a device code has no meaning or is missing */
+#define SHELF_SAME_DEVICE 5  /* the same device twice */
+#define SHELF_BAD_STRETCH 6  /* offset is above b, or count is above b - offset */
+
+/* Device codes of shelf_rebuild. A data disk's code is its number, 0 to 254. */
+#define SHELF_P 256
+#define SHELF_Q 257
+#define SHELF_NONE 65535
+
+/*
+ * Computes P and Q from the data.
+ *
+ *   n           data disks, 1 to 255
+ *   b           block size in bytes, 1 to 4096
+ *   stripe      the stripe: P and Q are written, whatever stood there; the data are read and stay
+ *   stripe_len  (n + 2) * b
+ *
+ * Refusals, in order:
+ *   1  n is 0 or above 255
+ *   2  b is 0 or above 4096
+ *   3  stripe_len isn't (n + 2) * b
+ */
+uint8_t shelf_encode(uint64_t n, uint64_t b, uint8_t *stripe, size_t stripe_len);
+
+/*
+ * Writes new bytes to a stretch of one data disk, and adds the change to P and Q at its columns: P gains old + new and
+ * Q gains 02^disk * (old + new). An encoded stripe stays encoded; on any other, each column stays as far from its
+ * equations as it was.
+ *
+ *   n           data disks, 1 to 255
+ *   b           block size in bytes, 1 to 4096
+ *   stripe      the stripe: written at the stretch and at its columns of P and Q; no other byte changes
+ *   stripe_len  (n + 2) * b
+ *   disk        the data disk, 0 to n - 1
+ *   offset      where the stretch starts in the disk's block, in bytes, 0 to b
+ *   bytes       the new bytes, which are only read; they must not overlap the stripe
+ *   count       how many, 0 to b - offset; with 0 the call is done and changes nothing
+ *
+ * Refusals, in order:
+ *   1  n is 0 or above 255
+ *   2  b is 0 or above 4096
+ *   3  stripe_len isn't (n + 2) * b
+ *   4  disk is n or more
+ *   6  offset is above b, or count is above b - offset
+ */
+uint8_t shelf_write(uint64_t n, uint64_t b, uint8_t *stripe, size_t stripe_len, uint64_t disk, uint64_t offset,
+                    const uint8_t *bytes, size_t count);
+
+/*
+ * Replaces the blocks of one or two lost devices. What stood on them has no influence, the other blocks stay, and the
+ * order of the two names doesn't matter.
+ *
+ *   one data disk    from P and the other data; Q is neither read nor changed
+ *   P or Q           computed from the data
+ *   data and P       the data from Q and the other data, then P
+ *   data and Q       the data from P and the other data, then Q
+ *   P and Q          both computed from the data
+ *   two data disks   from P, Q and the other data
+ *
+ * With two names the result meets both equations, and no other bytes on those devices would. With one name it meets
+ * the equation that was used.
+ *
+ *   n           data disks, 1 to 255
+ *   b           block size in bytes, 1 to 4096
+ *   stripe      the stripe: the blocks of the named devices are written
+ *   stripe_len  (n + 2) * b
+ *   first       a device: a data disk 0 to n - 1, SHELF_P or SHELF_Q
+ *   second      another device, or SHELF_NONE if one alone is lost
+ *
+ * Refusals, in order:
+ *   1  n is 0 or above 255
+ *   2  b is 0 or above 4096
+ *   3  stripe_len isn't (n + 2) * b
+ *   4  first is no device of this stripe (SHELF_NONE is none), or second is neither one nor SHELF_NONE
+ *   5  first and second are the same device
+ */
+uint8_t shelf_rebuild(uint64_t n, uint64_t b, uint8_t *stripe, size_t stripe_len, uint64_t first, uint64_t second);
+
+#ifdef __cplusplus
+}
+#endif
+
+#endif
