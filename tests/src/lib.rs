@@ -4,6 +4,7 @@
 pub mod column;
 pub mod field;
 pub mod job;
+pub mod judge;
 pub mod program;
 pub mod random;
 pub mod stripe;

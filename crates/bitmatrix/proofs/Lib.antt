@@ -1,0 +1,12 @@
+pub mod Fold
+pub mod Bits
+pub mod Product
+pub mod Linear
+pub mod Weight
+pub mod Findings
+pub mod Invertible
+pub mod Reports
+pub mod Fit
+pub mod Rebuild
+pub mod Places
+pub mod Permutations

@@ -1,0 +1,4 @@
+pub mod Fold
+pub mod Matrix
+pub mod Judge
+pub mod Cone
