@@ -1,4 +1,6 @@
-.PHONY: test lib
+.PHONY: test lib job install uninstall
+# One rt at a time: they share target/.
+.NOTPARALLEL:
 
 # The whole gate; its last line is 'N passed, M failed'.
 test:
@@ -7,3 +9,28 @@ test:
 # The library for C, target/staticlib/libshelf.a; include/shelf.h is its header.
 lib:
 	rt staticlib shelf
+
+# The job program, target/bin/shelf_job.
+job:
+	rt check shelf_job
+
+# Where installed files go. DESTDIR, if given, stands before PREFIX for a staged copy, and no file mentions it.
+VERSION = 0.1.0
+PREFIX = /usr/local
+bindir = $(DESTDIR)$(PREFIX)/bin
+libdir = $(DESTDIR)$(PREFIX)/lib
+includedir = $(DESTDIR)$(PREFIX)/include
+
+install: lib job
+	install -d '$(bindir)' '$(libdir)/pkgconfig' '$(includedir)'
+	install -m 755 target/bin/shelf_job '$(bindir)'
+	install -m 644 target/staticlib/libshelf.a '$(libdir)'
+	install -m 644 include/shelf.h '$(includedir)'
+	printf '%s\n' 'prefix=$(PREFIX)' 'libdir=$${prefix}/lib' 'includedir=$${prefix}/include' '' 'Name: shelf' \
+	    'Description: RAID-6 stripes: encode, small writes, rebuild' 'Version: $(VERSION)' \
+	    'Cflags: -I"$${includedir}"' 'Libs: -L"$${libdir}" -lshelf' >'$(libdir)/pkgconfig/shelf.pc'
+	chmod 644 '$(libdir)/pkgconfig/shelf.pc'
+
+# Folders stay: others may use them.
+uninstall:
+	rm -f '$(bindir)/shelf_job' '$(libdir)/libshelf.a' '$(libdir)/pkgconfig/shelf.pc' '$(includedir)/shelf.h'

@@ -1,0 +1,21 @@
+/* A controller's first program, built against an installed copy: encodes a stripe, loses both data disks, rebuilds. */
+#include <shelf.h>
+#include <stdio.h>
+#include <string.h>
+
+int main(void)
+{
+    const uint8_t encoded[] = {0x01, 0x80, 0x81, 0x1c};
+    uint8_t stripe[] = {0x01, 0x80, 0, 0};
+
+    if (shelf_encode(2, 1, stripe, sizeof stripe) != 0 || memcmp(stripe, encoded, sizeof stripe) != 0) {
+        puts("encode is wrong");
+        return 1;
+    }
+    memset(stripe, 0, 2);
+    if (shelf_rebuild(2, 1, stripe, sizeof stripe, 0, 1) != 0 || memcmp(stripe, encoded, sizeof stripe) != 0) {
+        puts("rebuild is wrong");
+        return 1;
+    }
+    return 0;
+}
