@@ -1,24 +1,29 @@
 //! Runs the programs that `rt` built. They are x86-64 Linux programs for the machine's own loader.
 
+use std::fs::File;
 use std::io::{ErrorKind, Write};
 use std::path::PathBuf;
-use std::process::{Command, Stdio};
+use std::process::{Child, Command, Stdio};
 use std::thread;
+use std::time::Duration;
 
-fn path(name: &str) -> PathBuf {
+fn start(name: &str, stdin: Stdio, stdout: Stdio) -> Child {
     let path = PathBuf::from(concat!(env!("CARGO_MANIFEST_DIR"), "/../target/bin")).join(name);
     assert!(path.exists(), "target/bin/{name} is missing: `rt check {name}` builds it");
-    path
+    Command::new(path).stdin(stdin).stdout(stdout).spawn().unwrap_or_else(|e| panic!("target/bin/{name} does not start: {e}"))
 }
 
-/// What the program writes to standard output when the pieces arrive on its standard input, each
-/// in a write of its own. It must end by itself with status 0.
-pub fn run_pieces(name: &str, pieces: &[&[u8]]) -> Vec<u8> {
-    let mut child = Command::new(path(name))
-        .stdin(Stdio::piped())
-        .stdout(Stdio::piped())
-        .spawn()
-        .unwrap_or_else(|e| panic!("target/bin/{name} does not start: {e}"));
+/// What the program writes before it ends by itself with status 0.
+fn output(name: &str, child: Child) -> Vec<u8> {
+    let output = child.wait_with_output().expect("a child can be waited for");
+    assert!(output.status.success(), "{name} ended with {}", output.status);
+    output.stdout
+}
+
+/// Runs the program on input that comes through a pipe in pieces, with a pause after each so that
+/// it is read before the next arrives.
+pub fn run_pieces<'a>(name: &str, pieces: impl Iterator<Item = &'a [u8]> + Send, pause: Duration) -> Vec<u8> {
+    let mut child = start(name, Stdio::piped(), Stdio::piped());
     let mut stdin = child.stdin.take().expect("standard input is piped");
     thread::scope(|scope| {
         scope.spawn(move || {
@@ -28,14 +33,24 @@ pub fn run_pieces(name: &str, pieces: &[&[u8]]) -> Vec<u8> {
                     Err(e) if e.kind() == ErrorKind::BrokenPipe => return,
                     other => other.expect("a pipe takes the input"),
                 }
+                thread::sleep(pause);
             }
         });
-        let output = child.wait_with_output().expect("a child can be waited for");
-        assert!(output.status.success(), "{name} ended with {}", output.status);
-        output.stdout
+        output(name, child)
     })
 }
 
 pub fn run(name: &str, input: &[u8]) -> Vec<u8> {
-    run_pieces(name, &[input])
+    run_pieces(name, [input].into_iter(), Duration::ZERO)
+}
+
+/// Runs the program with a file as standard input.
+pub fn run_on_file(name: &str, file: File) -> Vec<u8> {
+    output(name, start(name, file.into(), Stdio::piped()))
+}
+
+/// Runs the program with its output going to a file, and says whether it ended with status 0.
+pub fn run_into_file(name: &str, input: File, file: File) -> bool {
+    let mut child = start(name, input.into(), file.into());
+    child.wait().expect("a child can be waited for").success()
 }

@@ -1,0 +1,178 @@
+//! The program shelf_job: the tables of cases under job/, and random jobs against the independent
+//! implementation.
+
+use std::fs::{self, File};
+use std::path::Path;
+use std::time::Duration;
+
+use outside::job::{self, Header, CHECK, ENCODE, REBUILD};
+use outside::program;
+use outside::random::{trials, Random};
+
+const PROGRAM: &str = "shelf_job";
+const NONE: u16 = 65535;
+
+struct Case {
+    name: String,
+    input: Vec<u8>,
+    output: Vec<u8>,
+}
+
+/// Bytes in hex; 00*5 is five of them.
+fn bytes(text: &str) -> Vec<u8> {
+    let mut bytes = Vec::new();
+    for word in text.split_whitespace() {
+        let (byte, count) = word.split_once('*').unwrap_or((word, "1"));
+        let byte = u8::from_str_radix(byte, 16).expect(word);
+        bytes.resize(bytes.len() + count.parse::<usize>().expect(word), byte);
+    }
+    bytes
+}
+
+/// A case is three lines: a comment that names it, `in` and its bytes, `out` and its bytes.
+fn cases() -> Vec<Case> {
+    let mut cases = Vec::new();
+    for entry in fs::read_dir(Path::new(env!("CARGO_MANIFEST_DIR")).join("job")).expect("the folder of cases") {
+        let path = entry.expect("a file of cases").path();
+        let (mut name, mut input) = (String::new(), None);
+        for line in fs::read_to_string(&path).expect("a file of cases").lines() {
+            if let Some(comment) = line.strip_prefix("# ") {
+                name = format!("{}: {comment}", path.display());
+            } else if let Some(rest) = line.strip_prefix("in ") {
+                input = Some(bytes(rest));
+            } else if let Some(rest) = line.strip_prefix("out ") {
+                let input = input.take().unwrap_or_else(|| panic!("{name}: no input"));
+                cases.push(Case { name: name.clone(), input, output: bytes(rest) });
+            } else {
+                assert_eq!(line, "", "{name}: not a line of a case");
+            }
+        }
+        assert!(input.is_none(), "{name}: no output");
+    }
+    assert!(!cases.is_empty());
+    cases
+}
+
+/// Fails with the names of the cases that are answered otherwise.
+fn every_case(answer: impl Fn(&[u8]) -> Vec<u8>) {
+    let wrong: Vec<String> = cases().into_iter().filter(|case| answer(&case.input) != case.output).map(|case| case.name).collect();
+    assert!(wrong.is_empty(), "{} wrong answers:\n{}", wrong.len(), wrong.join("\n"));
+}
+
+#[test]
+fn the_program_answers_every_case() {
+    every_case(|input| program::run(PROGRAM, input));
+}
+
+#[test]
+fn the_independent_implementation_answers_every_case() {
+    every_case(job::answer);
+}
+
+/// The whole job is 20 bytes long.
+#[test]
+fn every_length_up_to_a_whole_job() {
+    let whole = Header::new(ENCODE, 1, 2, NONE, NONE).with(&[5, 6, 0, 0, 0, 0]);
+    for length in 0..=20 {
+        let answer = program::run(PROGRAM, &whole[..length]);
+        match length {
+            0..=13 => assert_eq!(answer, [0x53, 0x52, 0x4a, 0, 1, 16], "{length} bytes"),
+            14..=19 => assert_eq!(answer, [0x53, 0x52, 0x4a, 0, 1, 3], "{length} bytes"),
+            _ => assert_eq!(answer, [0x53, 0x52, 0x4a, 0, 1, 0, 5, 6, 5, 6, 5, 6]),
+        }
+    }
+}
+
+#[test]
+fn input_in_pieces() {
+    let exchange = Header::new(REBUILD, 2, 1, 0, 1).with(&[0, 0, 0x81, 0x1c]);
+    let largest = Header::new(ENCODE, 13, 4096, NONE, NONE).with(&Random::new(1).bytes(61440));
+    for (job, piece) in [(&exchange, 1), (&exchange, 5), (&largest, 1000), (&largest, 4096), (&largest, 4097), (&largest, 30727)] {
+        let answer = program::run_pieces(PROGRAM, job.chunks(piece), Duration::from_millis(2));
+        assert_eq!(answer, job::answer(job), "pieces of {piece} bytes");
+    }
+}
+
+/// Input that cannot be read is a job of no bytes.
+#[test]
+fn a_read_that_fails() {
+    let folder = File::open(env!("CARGO_MANIFEST_DIR")).expect("this folder");
+    assert_eq!(program::run_on_file(PROGRAM, folder), job::answer(&[]));
+}
+
+/// The program ends even if nothing takes its answer.
+#[test]
+fn a_write_that_fails() {
+    let full = File::options().write(true).open("/dev/full").expect("a device that is always full");
+    let nothing = File::open("/dev/null").expect("an empty input");
+    assert!(program::run_into_file(PROGRAM, nothing, full));
+}
+
+/// A header of which the most likely damage is none.
+fn random_header(random: &mut Random) -> Header {
+    let n = if random.once_in(20) { random.within(1, 255) } else { random.within(1, 12) };
+    let fits = (61440 / (n + 2)).min(4096);
+    let b = if random.once_in(50) { random.within(1, fits) } else { random.within(1, 24.min(fits)) };
+    let device = |random: &mut Random| match random.within(0, n + 2) {
+        place if place < n => place as u16,
+        place => [256, 257, NONE][place - n],
+    };
+    let command = random.pick(&[ENCODE, REBUILD, REBUILD, CHECK]);
+    let (first, second) = if command == REBUILD { (device(random), device(random)) } else { (NONE, NONE) };
+    Header::new(command, n as u16, b as u16, first, second)
+}
+
+/// A number near a border, or any.
+fn random_number(random: &mut Random) -> u16 {
+    match random.within(0, 1) {
+        0 => random.pick(&[0, 1, 2, 14, 254, 255, 256, 257, 258, 4095, 4096, 4097, 65534, 65535]),
+        _ => random.number() as u16,
+    }
+}
+
+fn damage(random: &mut Random, header: &mut Header) {
+    match random.within(0, 6) {
+        0 => header.mark[random.within(0, 2)] ^= 1 << random.within(0, 7),
+        1 => header.version = random_number(random),
+        2 => header.command = random_number(random) as u8,
+        3 => header.n = random_number(random),
+        4 => header.b = random_number(random),
+        5 => header.first = random_number(random),
+        _ => header.second = random_number(random),
+    }
+}
+
+/// A stripe for a check is encoded and then damaged in some columns.
+fn random_bytes(random: &mut Random, header: &Header) -> Vec<u8> {
+    let (n, b) = (u64::from(header.n), u64::from(header.b));
+    let mut stripe = random.bytes(((n + 2) * b) as usize);
+    if header.command == CHECK && !random.once_in(4) {
+        assert_eq!(outside::stripe::encode(n, b, &mut stripe), 0);
+        for _ in 0..random.within(0, 3) {
+            let at = random.within(0, stripe.len() - 1);
+            stripe[at] = random.number() as u8;
+        }
+    }
+    stripe
+}
+
+#[test]
+fn ten_thousand_random_jobs() {
+    trials(10_000, |random| {
+        let mut header = random_header(random);
+        let mut stripe = random_bytes(random, &header);
+        while random.once_in(3) {
+            damage(random, &mut header);
+        }
+        match random.within(0, 19) {
+            0 => stripe.truncate(random.within(0, stripe.len())),
+            1 => stripe.push(0),
+            _ => {}
+        }
+        let mut job = header.with(&stripe);
+        if random.once_in(40) {
+            job.truncate(random.within(0, 20));
+        }
+        assert_eq!(program::run(PROGRAM, &job), job::answer(&job), "job {:02x?}", &job[..job.len().min(40)]);
+    });
+}
