@@ -1,0 +1,44 @@
+-- What holds of a job that is not refused.
+-- Assumes nothing.
+use mathlib.Core.Path.{_≡_, refl, sym, ap, _∙_}
+use mathlib.Core.Bool.{Bool, true, false}
+use mathlib.Core.List.{List, [], _∷_}
+use Prim.Native.Nat.{ℕ, _≤_, _<_}
+use native.Mathlib.Nat.{pos-of-ne-zero}
+use borrow.Author.Tests.{ltb-false, eqb-false}
+use lib.Dec.{eqb, ltb}
+use lib.ListN.{length}
+use Rattle.stripe.specs.declared.Geometry.{Geometry}
+use Rattle.stripe.specs.Stripe.{size}
+use Rattle.stripe.specs.Refusals.{encodeRefusal}
+use Rattle.stripe.proofs.Refused.{either-false}
+use Rattle.job.specs.Header.{commandOf, geometryOf, firstDevice, secondDevice, stripeOf}
+use Rattle.job.specs.Refusals.{order, refusal4, refusal5, jobRefusal}
+use Rattle.job.proofs.Order.{none-applies}
+
+pub record Accepted (job : List ℕ) : Type 0 where
+  pub long : 14 ≤ length job
+  pub some : 0 < commandOf job
+  pub known : commandOf job ≤ 3
+  pub fits : size (geometryOf job) ≤ 61440
+  pub shape : encodeRefusal (geometryOf job) (length (stripeOf job)) ≡ 0
+  pub named : refusal4 (geometryOf job) (commandOf job) (firstDevice job) (secondDevice job) .applies ≡ false
+  pub apart : refusal5 (geometryOf job) (firstDevice job) (secondDevice job) .applies ≡ false
+
+pub accepted : (job : List ℕ) → jobRefusal job ≡ 0 → Accepted job
+unfolding jobRefusal
+accepted job e =
+    let none = none-applies (order job (geometryOf job)) refl e in
+    let command = either-false (eqb (commandOf job) 0) (ltb 3 (commandOf job)) (none .1 .1 .1 .0) in
+    let one = none .1 .1 .1 .1 .0 in
+    let two = none .1 .1 .1 .1 .1 .0 in
+    let three = none .1 .1 .1 .1 .1 .1 .1 .0 in
+    record {
+      long = ltb-false (length job) 14 (none .0);
+      some = pos-of-ne-zero (eqb-false (commandOf job) 0 (command .0));
+      known = ltb-false 3 (commandOf job) (command .1);
+      fits = ltb-false 61440 (size (geometryOf job)) (none .1 .1 .1 .1 .1 .1 .0);
+      shape = simp (one, two, three);
+      named = none .1 .1 .1 .1 .1 .1 .1 .1 .0;
+      apart = none .1 .1 .1 .1 .1 .1 .1 .1 .1 .0;
+    }

@@ -1,0 +1,83 @@
+-- The body of an accepted job's answer for each command, and its length.
+-- Assumes nothing.
+use mathlib.Core.Path.{_≡_, refl, sym, ap, _∙_}
+use mathlib.Core.Bool.{Bool, true, false}
+use mathlib.Core.List.{List, [], _∷_}
+use Prim.Native.Nat.{ℕ, _+_, _*_}
+use native.Mathlib.Omega.{arith}
+use native.Mathlib.Decide.{ℕ-discrete}
+use lib.Dec.{eqb}
+use lib.ListN.{length}
+use Rattle.stripe.specs.declared.Geometry.{Geometry}
+use Rattle.stripe.specs.declared.Lost.{Lost}
+use Rattle.stripe.specs.declared.Naming.{Naming}
+use Rattle.stripe.specs.declared.Naming.the-variants.{Loss, Wrong}
+use Rattle.stripe.specs.Column.{Column, reedSolomon, encodeColumn, rebuildColumn, verdict}
+use Rattle.stripe.specs.Stripe.{column, encoded, rebuilt, verdicts, summary}
+use Rattle.stripe.specs.Refusals.{refusal4 as lostRefusal4, refusal5 as lostRefusal5, encodeRefusal, rebuildRefusal}
+use Rattle.stripe.specs.Calls.{afterEncode, afterRebuild}
+use Rattle.stripe.specs.Codes.{rebuiltBy}
+use Rattle.stripe.proofs.Places.{length-lift, length-tabulate}
+use Rattle.stripe.proofs.Refused.{shape-passed, left-done}
+use Rattle.job.specs.Header.{commandOf, geometryOf, lossNamed, stripeOf}
+use Rattle.job.specs.Refusals.{misnamed, namedTwice}
+use Rattle.job.specs.Answer.{restored, report, body}
+use Rattle.job.proofs.Accepted.{Accepted}
+use Rattle.job.proofs.Fielded.{length-fields}
+
+length-restored : (g : Geometry) (loss : Naming) (s : List ℕ) → length (restored g loss s) ≡ length s
+length-restored g (Loss lost) s = length-lift g (λ i c. rebuildColumn reedSolomon (g .n) lost c) s
+length-restored g Wrong s = refl
+
+module _ (job : List ℕ) where
+  abbrev g : Geometry
+  g = geometryOf job
+
+  abbrev s : List ℕ
+  s = stripeOf job
+
+  pub body-encode : commandOf job ≡ 1 → body job ≡ encoded g s
+  unfolding body
+  body-encode e = rw e
+
+  pub body-rebuild : commandOf job ≡ 2 → body job ≡ restored g (lossNamed job) s
+  unfolding body
+  body-rebuild e = rw e
+
+  pub body-check : commandOf job ≡ 3 → body job ≡ report (verdicts g s)
+  unfolding body
+  body-check e = rw e
+
+  pub length-check : commandOf job ≡ 3 → length (body job) ≡ 2 + 2 * g .b
+  length-check e =
+      let vs = verdicts g s in
+      let columns : length vs ≡ g .b = length-tabulate (g .b) (λ i. verdict (g .n) (column g s i)) in
+      let bytes : length (report vs) ≡ 2 * length (summary vs ∷ vs) = length-fields (summary vs ∷ vs) in
+      ap length (body-check e) ∙ bytes ∙ omega arith
+
+  module _ (ok : Accepted job) where
+    pub other : (commandOf job ≡ 1 → ⊥) → (commandOf job ≡ 3 → ⊥) → commandOf job ≡ 2
+    other p h = omega arith
+
+    -- a command other than check
+    pub length-stripe : (commandOf job ≡ 3 → ⊥) → length (body job) ≡ length s
+    length-stripe h = go (ℕ-discrete (commandOf job) 1)
+      where
+        go : Dec (commandOf job ≡ 1) → length (body job) ≡ length s
+        go (yes e) = ap length (body-encode e) ∙ length-lift g (λ i c. encodeColumn reedSolomon (g .n) c) s
+        go (no p) = ap length (body-rebuild (other p h)) ∙ length-restored g (lossNamed job) s
+
+    -- what the stripe's calls leave is the body
+    pub encode-done : commandOf job ≡ 1 → afterEncode g s ≡ body job
+    unfolding afterEncode
+    encode-done e = left-done (encodeRefusal g (length s)) (encoded g s) s (ok .shape) ∙ sym (body-encode e)
+
+    pub rebuild-done : commandOf job ≡ 2 → rebuiltBy g (lossNamed job) s ≡ body job
+    unfolding afterRebuild
+    rebuild-done e = go (lossNamed job) (rw e at (ok .named)) (ok .apart) ∙ sym (body-rebuild e)
+      where
+        go : (loss : Naming) → misnamed g loss ≡ false → namedTwice g loss ≡ false → rebuiltBy g loss s ≡ restored g loss s
+        go (Loss lost) m t =
+            left-done (rebuildRefusal g (length s) lost) (rebuilt g lost s) s
+            (shape-passed g (length s) (ok .shape) (lostRefusal4 g lost ∷ lostRefusal5 g lost ∷ []) ∙ simp (m, t))
+        go Wrong m t = refl

@@ -1,0 +1,107 @@
+-- `job::check_in` meets its contract: the check is not refused, and its summary and verdicts are written one after the other.
+-- Assumes nothing.
+use mathlib.Core.Path.{_≡_, refl, sym, ap, ap₂, _∙_}
+use mathlib.Core.List.{List, [], _∷_, _++_}
+use Prim.Native.Nat.{ℕ, _/_, _%_}
+use native.Mathlib.Omega.{arith}
+use borrow.Author.Needs.{needs}
+use borrow.Author.Tests.{eq-eqb}
+use lib.ListN.{length, take}
+use Rattle.stripe.specs.declared.Checked.the-variants.{Summary}
+use Rattle.stripe.specs.Calls.{answered, afterCheck}
+use Rattle.stripe.specs.Refusals.{refusal7, checkRefusal}
+use Rattle.stripe.specs.Stripe.{verdicts, summary}
+use Rattle.stripe.proofs.Refused.{shape-passed, left-done}
+use Rattle.job.specs.Fields.{bigEndian, fields}
+use Rattle.job.proofs.Fielded.{set-two}
+use Rattle.job.proofs.Parts.{put-tail}
+use Rattle.job.proofs.check_in.Statement.{statement}
+use Rattle.job.proofs.check_in.Tie as tie
+
+-- refusals 1 to 3 do not apply, and the room has B places
+accepted : (c : tie.After-slice-known3) → checkRefusal (c .before .before .before .before .before .before .before .args .g) (length (c .before .before .before .before .before .before .before .args .stripe .now)) (length (c .before .before .before .before .before .before .before .args .room .now)) ≡ 0
+accepted c =
+    let a = c .before .before .before .before .before .before .before .args in
+    shape-passed (a .g) (length (a .stripe .now)) (c .before .before .before .before .before .before .before .pre .0) (refusal7 (a .g) (length (a .room .now)) ∷ []) ∙ simp (eq-eqb _ _ (c .before .before .before .before .before .before .before .pre .1))
+
+done : (c : tie.After-slice-known3) → c .before .before .check .result ≡ Summary (summary (verdicts (c .before .before .before .before .before .before .before .args .g) (c .before .before .before .before .before .before .before .args .stripe .now)))
+done c =
+    let a = c .before .before .before .before .before .before .before .args in
+    c .before .before .check .ensures .result ∙ ap (λ (k : ℕ). answered k (summary (verdicts (a .g) (a .stripe .now)))) (accepted c)
+
+left : (c : tie.After-slice-known3) → c .before .before .check .last .1 .1 .0 ≡ verdicts (c .before .before .before .before .before .before .before .args .g) (c .before .before .before .before .before .before .before .args .stripe .now)
+unfolding afterCheck
+left c =
+    let a = c .before .before .before .before .before .before .before .args in
+    c .before .before .check .ensures .room
+    ∙ left-done (checkRefusal (a .g) (length (a .stripe .now)) (length (a .room .now))) (verdicts (a .g) (a .stripe .now)) (a .room .now) (accepted c)
+
+check-requires : tie.Need-check-requires
+check-requires c κs = search needs
+
+enum-known-summary : tie.Need-enum-known-summary
+enum-known-summary c = search needs
+
+enum-told : tie.Need-enum-told
+enum-told c = search needs
+
+same-length : tie.Need-same-length
+same-length c = search needs
+
+returns : tie.Need-returns
+returns c =
+    let found = done (c .before .before) in
+    let told = c .enum-told .given .1 in
+    let z : _≡_ {A = ℕ} 0 1 = cc in
+    absurd (omega arith)
+
+put-requires : tie.Need-put-requires
+put-requires c κs = search needs
+
+sub-put-all : tie.Need-sub-put-all
+sub-put-all c = search needs
+
+part-put-all-start : tie.Need-part-put-all-start
+part-put-all-start c = search needs
+
+part-put-all-end : tie.Need-part-put-all-end
+part-put-all-end c = search needs
+
+put-all-requires : tie.Need-put-all-requires
+put-all-requires c κs = search needs
+
+same-length-2 : tie.Need-same-length-2
+same-length-2 c = search needs
+
+same-length-3 : tie.Need-same-length-3
+same-length-3 c = search needs
+
+returns-2 : tie.Need-returns-2
+unfolding fields
+returns-2 c =
+    let a = c .before .before .before .before .before .before .before .before .before .before .before .before .before .before .before .before .before .before .before .args in
+    let found = done (c .before .before .before .before .before .before .before .before .before .before .before .before) in
+    let given = c .before .before .before .before .before .before .before .before .before .before .summary .given .1 in
+    let v = c .before .before .before .before .before .before .before .before .before .before .summary .given .0 .0 in
+    let first : v ≡ summary (verdicts (a .g) (a .stripe .now)) = cc in
+    put-tail 2 (c .before .before .before .before .before .before .before .put .last .0) (c .before .before .put-all .last .1 .0)
+    ∙ ap₂ (λ (l m : List ℕ). take 2 l ++ m) (c .before .before .before .before .before .before .before .put .ensures ∙ set-two [] (a .out .now) 0 (v / 256) (v % 256) refl (omega (arith, c .before .before .before .before .before .before .before .before .before .before .before .before .before .before .before .before .before .before .before .pre .2))) (c .before .before .put-all .ensures)
+    ∙ ap₂ (λ (k : ℕ) (l : List ℕ). bigEndian k ++ fields l) first (left (c .before .before .before .before .before .before .before .before .before .before .before .before))
+
+pub check-in-spec : {M : Type 1} → statement M
+check-in-spec =
+    tie.close
+    (tie.spec
+    check-requires
+    enum-known-summary
+    enum-told
+    same-length
+    returns
+    put-requires
+    sub-put-all
+    part-put-all-start
+    part-put-all-end
+    put-all-requires
+    same-length-2
+    same-length-3
+    returns-2)

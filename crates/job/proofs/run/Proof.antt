@@ -1,0 +1,125 @@
+-- `job::run` meets its contract: a call of the stripe for each command.
+-- Assumes nothing.
+use mathlib.Core.Path.{_≡_, sym, ap, ap₂, _∙_}
+use mathlib.Core.List.{List, _++_}
+use Prim.Native.Nat.{ℕ, _+_, _*_, _≤_}
+use native.Mathlib.Omega.{arith}
+use borrow.Author.Needs.{needs}
+use lib.ListN.{length, take, drop}
+use Rattle.stripe.specs.declared.Geometry.{Geometry}
+use Rattle.stripe.specs.Calls.{afterEncode}
+use Rattle.stripe.specs.Codes.{namingOf, rebuiltBy}
+use Rattle.stripe.specs.Refusals.{encodeRefusal}
+use Rattle.stripe.specs.Stripe.{verdicts}
+use Rattle.job.specs.Header.{geometryOf, stripeOf}
+use Rattle.job.specs.Answer.{report}
+use Rattle.job.proofs.Accepted.{Accepted, accepted}
+use Rattle.job.proofs.Bodies.{body-check, length-check, length-stripe, other, encode-done, rebuild-done}
+use Rattle.job.proofs.Parts.{tail, filled}
+use Rattle.job.proofs.run.Statement.{statement}
+use Rattle.job.proofs.run.Tie as tie
+
+ok : (c : tie.Start) → Accepted (c .args .job .now)
+ok c = accepted (c .args .job .now) (c .pre .0)
+
+room : (c : tie.Else1) → length (c .before .before .before .before .before .before .args .out .now) ≡ length (stripeOf (c .before .before .before .before .before .before .args .job .now))
+room c = c .before .before .before .before .before .before .pre .1 ∙ length-stripe (c .before .before .before .before .before .before .args .job .now) (ok (c .before .before .before .before .before .before)) (c .if1 .left)
+
+-- the output holds the stripe
+copied : (c : tie.After-slice-known3) → c .before .before .copy .last .1 .0 ≡ stripeOf (c .before .before .before .before .before .before .before .before .before .before .args .job .now)
+copied c =
+    let a = c .before .before .before .before .before .before .before .before .before .before .args in
+    c .before .before .copy .ensures .1
+    ∙ ap (λ (l : List ℕ). take (length l) l ++ drop (length l) (a .out .now)) (tail 14 (a .job .now))
+    ∙ filled (stripeOf (a .job .now)) (a .out .now) (room (c .before .before .before .before))
+
+geometry-requires : tie.Need-geometry-requires
+geometry-requires c κs = ok (c .before .before) .long
+
+shared-slice-read-command : tie.Need-shared-slice-read-command
+shared-slice-read-command c = omega (arith, ok (c .before .before .before .before) .long)
+
+sub-stripe : tie.Need-sub-stripe
+sub-stripe c = ok (c .before .before .before .before) .long
+
+part-stripe-start : tie.Need-part-stripe-start
+part-stripe-start c = ok (c .before .before .before .before) .long
+
+part-stripe-end : tie.Need-part-stripe-end
+part-stripe-end c = search needs
+
+check-requires : tie.Need-check-requires
+check-requires c κs =
+    let s = c .before .before .before .before .before .before .before in
+    let job = s .args .job .now in
+    let g = c .before .before .before .before .geometry .ensures in (
+      ap₂ (λ (g : Geometry) (l : List ℕ). encodeRefusal g (length l)) g (tail 14 job) ∙ ok s .shape,
+      s .pre .1 ∙ length-check job (c .before .if1 .taken) ∙ ap (λ (g : Geometry). 2 + 2 * g .b) (sym g),
+    )
+
+same-length : tie.Need-same-length
+same-length c = search needs
+
+returns : tie.Need-returns
+returns c =
+    let job = c .before .before .before .before .before .before .before .before .before .before .args .job .now in
+    c .before .before .check .ensures
+    ∙ ap₂ (λ (g : Geometry) (l : List ℕ). report (verdicts g l)) (c .before .before .before .before .before .before .before .geometry .ensures) (tail 14 job)
+    ∙ sym (body-check job (c .before .before .before .before .if1 .taken))
+
+copy-requires : tie.Need-copy-requires
+copy-requires c κs = omega (arith, room (c .before), ap length (tail 14 (c .before .before .before .before .before .before .before .args .job .now)))
+
+encode-requires : tie.Need-encode-requires
+encode-requires c κs = search needs
+
+same-length-2 : tie.Need-same-length-2
+same-length-2 c = search needs
+
+returns-2 : tie.Need-returns-2
+returns-2 c =
+    c .before .before .encode .ensures .stripe
+    ∙ ap₂ afterEncode (c .before .before .before .before .before .before .before .before .before .before .before .before .geometry .ensures) (copied (c .before .before .before .before .before))
+    ∙ encode-done (c .before .before .before .before .before .before .before .before .before .before .before .before .before .before .before .args .job .now) (ok (c .before .before .before .before .before .before .before .before .before .before .before .before .before .before .before)) (c .before .before .before .before .if2 .taken)
+
+field-requires : tie.Need-field-requires
+field-requires c κs = omega (arith, ok (c .before .before .before .before .before .before .before .before .before .before .before .before) .long)
+
+field-requires-2 : tie.Need-field-requires-2
+field-requires-2 c κs = ok (c .before .before .before .before .before .before .before .before .before .before .before .before .before) .long
+
+rebuild-named-requires : tie.Need-rebuild-named-requires
+rebuild-named-requires c κs = search needs
+
+same-length-3 : tie.Need-same-length-3
+same-length-3 c = search needs
+
+returns-3 : tie.Need-returns-3
+returns-3 c =
+    let job = c .before .before .before .before .before .before .before .before .before .before .before .before .before .before .before .before .before .args .job .now in
+    c .before .before .rebuild-named .ensures .stripe
+    ∙ ap₂ (λ (g : Geometry) (l : List ℕ). rebuiltBy g (namingOf (c .before .before .before .before .field .result) (c .before .before .before .field2 .result)) l) (c .before .before .before .before .before .before .before .before .before .before .before .before .before .before .geometry .ensures) (copied (c .before .before .before .before .before .before .before))
+    ∙ ap₂ (λ (x y : ℕ). rebuiltBy (geometryOf job) (namingOf x y) (stripeOf job)) (c .before .before .before .before .field .ensures .value) (c .before .before .before .field2 .ensures .value)
+    ∙ rebuild-done job (ok (c .before .before .before .before .before .before .before .before .before .before .before .before .before .before .before .before .before)) (other job (ok (c .before .before .before .before .before .before .before .before .before .before .before .before .before .before .before .before .before)) (c .before .before .before .before .before .before .if2 .left) (c .before .before .before .before .before .before .before .before .before .before .before .if1 .left))
+
+pub run-spec : {M : Type 1} → statement M
+run-spec =
+    tie.close
+    (tie.spec
+    geometry-requires
+    shared-slice-read-command
+    sub-stripe
+    part-stripe-start
+    part-stripe-end
+    check-requires
+    same-length
+    returns
+    copy-requires
+    encode-requires
+    same-length-2
+    returns-2
+    field-requires
+    field-requires-2
+    rebuild-named-requires
+    same-length-3
+    returns-3)

@@ -1,0 +1,46 @@
+-- The answer to a job: mark, version 1 and the result byte; then, unless the job is refused, the stripe for an encode or a rebuild, or
+-- the summary and the verdicts for a check.
+use Prim.Native.Nat.{ℕ}
+use mathlib.Core.Path.{_≡_}
+use mathlib.Core.List.{List, [], _∷_, _++_}
+use lib.Dec.{eqb, leb}
+use lib.ListN.{length, drop}
+use Rattle.stripe.specs.declared.Geometry.{Geometry}
+use Rattle.stripe.specs.declared.Naming.{Naming}
+use Rattle.stripe.specs.declared.Naming.the-variants.{Loss, Wrong}
+use Rattle.stripe.specs.Choice.{choose}
+use Rattle.stripe.specs.Stripe.{encoded, rebuilt, verdicts, summary}
+use Rattle.stripe.specs.Calls.{unlessRefused}
+use Rattle.job.specs.Fields.{bigEndian, fields}
+use Rattle.job.specs.Header.{mark, commandOf, geometryOf, lossNamed, stripeOf}
+use Rattle.job.specs.Refusals.{jobRefusal}
+
+-- the six bytes of every answer
+abbrev pub opening : ℕ → List ℕ
+opening result = mark ++ (bigEndian 1 ++ (result ∷ []))
+
+-- a rebuilt stripe; codes that name no loss are refused before it
+abbrev pub restored : Geometry → Naming → List ℕ → List ℕ
+restored g (Loss lost) s = rebuilt g lost s
+restored g Wrong s = s
+
+abbrev pub report : List ℕ → List ℕ
+report vs = fields (summary vs ∷ vs)
+
+-- what follows the six bytes where the job is not refused
+abbrev pub outcome : ℕ → Geometry → Naming → List ℕ → List ℕ
+outcome command g loss s =
+    choose (eqb command 1) (encoded g s) (choose (eqb command 2) (restored g loss s) (report (verdicts g s)))
+
+unfoldable pub body : List ℕ → List ℕ
+body job = outcome (commandOf job) (geometryOf job) (lossNamed job) (stripeOf job)
+
+unfoldable pub answered : List ℕ → List ℕ
+answered job = opening (jobRefusal job) ++ unlessRefused (jobRefusal job) (body job) []
+
+-- The contract: the number of bytes answered and the final output. The answer stands at the output's start and the rest is left; an
+-- answer that the output has no room for is not written, and 0 is returned.
+pub record AnswerCall (job before : List ℕ) (r : ℕ) (after : List ℕ) : Type 0 where
+  pub count : r ≡ choose (leb (length (answered job)) (length before)) (length (answered job)) 0
+  pub output :
+    after ≡ choose (leb (length (answered job)) (length before)) (answered job ++ drop (length (answered job)) before) before

@@ -1,0 +1,37 @@
+-- A job is a header of 14 bytes and a stripe. The header: mark, version, command byte, n, B, and the codes of a first and a second
+-- device. All but the mark and the command are 16-bit fields.
+use Prim.Native.Nat.{ℕ}
+use mathlib.Core.List.{List, [], _∷_}
+use lib.ListN.{getD, drop}
+use Rattle.stripe.specs.declared.Geometry.{Geometry}
+use Rattle.stripe.specs.declared.Named.{Named}
+use Rattle.stripe.specs.declared.Naming.{Naming}
+use Rattle.stripe.specs.Codes.{namedBy, lossOf}
+use Rattle.job.specs.Fields.{field}
+
+-- "SRJ"
+abbrev pub mark : List ℕ
+mark = 0x53 ∷ 0x52 ∷ 0x4a ∷ []
+
+abbrev pub versionOf : List ℕ → ℕ
+versionOf job = field job 3
+
+-- 1 encode, 2 rebuild, 3 check
+abbrev pub commandOf : List ℕ → ℕ
+commandOf job = getD job 5 0
+
+abbrev pub geometryOf : List ℕ → Geometry
+geometryOf job = record { n = field job 6; b = field job 8 }
+
+-- what the two device codes stand for, and what they name together
+abbrev pub firstDevice : List ℕ → Named
+firstDevice job = namedBy (field job 10)
+
+abbrev pub secondDevice : List ℕ → Named
+secondDevice job = namedBy (field job 12)
+
+abbrev pub lossNamed : List ℕ → Naming
+lossNamed job = lossOf (firstDevice job) (secondDevice job)
+
+abbrev pub stripeOf : List ℕ → List ℕ
+stripeOf job = drop 14 job

@@ -1,0 +1,84 @@
+-- The refusals of a job: each number with its test, and their order. Refusals 1 to 3 are those of the stripe.
+use Prim.Native.Nat.{ℕ, _+_}
+use mathlib.Core.Bool.{Bool, true, false, not}
+use mathlib.Core.List.{List, [], _∷_}
+use lib.Dec.{eqb, ltb}
+use lib.ListN.{length, getD}
+use Rattle.stripe.specs.declared.Geometry.{Geometry}
+use Rattle.stripe.specs.declared.Named.{Named}
+use Rattle.stripe.specs.declared.Named.the-variants.{Device, Nothing, Meaningless}
+use Rattle.stripe.specs.declared.Naming.{Naming}
+use Rattle.stripe.specs.declared.Naming.the-variants.{Loss, Wrong}
+use Rattle.stripe.specs.Choice.{choose, both, either}
+use Rattle.stripe.specs.Stripe.{size}
+use Rattle.stripe.specs.Codes.{lossOf}
+use Rattle.stripe.specs.Refusals.{Refusal, firstOf, refusal1, refusal2, refusal3, unknownLost, twice}
+use Rattle.job.specs.Header.{mark, versionOf, commandOf, geometryOf, firstDevice, secondDevice, stripeOf}
+
+-- a job shorter than 14 bytes
+abbrev pub refusal16 : List ℕ → Refusal
+refusal16 job = record { number = 16; applies = ltb (length job) 14 }
+
+-- a wrong mark. `stands xs at bytes` tests whether xs stand in the bytes from a place on.
+abbrev pub stands : List ℕ → ℕ → List ℕ → Bool
+stands [] at bytes = true
+stands (x ∷ xs) at bytes = both (eqb (getD bytes at 0) x) (stands xs (at + 1) bytes)
+
+abbrev pub refusal17 : List ℕ → Refusal
+refusal17 job = record { number = 17; applies = not (stands mark 0 job) }
+
+-- the version isn't 1
+abbrev pub refusal18 : List ℕ → Refusal
+refusal18 job = record { number = 18; applies = not (eqb (versionOf job) 1) }
+
+-- an unknown command
+abbrev pub refusal19 : ℕ → Refusal
+refusal19 command = record { number = 19; applies = either (eqb command 0) (ltb 3 command) }
+
+-- (n+2)·B above 61,440
+abbrev pub refusal20 : Geometry → Refusal
+refusal20 g = record { number = 20; applies = ltb 61440 (size g) }
+
+-- Encode and check want none twice.
+abbrev pub isNone : Named → Bool
+isNone (Device d) = false
+isNone Nothing = true
+isNone Meaningless = false
+
+-- Rebuild wants codes that name a loss, and devices that the stripe has.
+abbrev pub misnamed : Geometry → Naming → Bool
+misnamed g (Loss lost) = unknownLost g lost
+misnamed g Wrong = true
+
+abbrev pub refusal4 : Geometry → ℕ → Named → Named → Refusal
+refusal4 g command first second =
+    record {
+      number = 4;
+      applies = choose (eqb command 2) (misnamed g (lossOf first second)) (not (both (isNone first) (isNone second)));
+    }
+
+-- the same device twice
+abbrev pub namedTwice : Geometry → Naming → Bool
+namedTwice g (Loss lost) = twice g lost
+namedTwice g Wrong = false
+
+abbrev pub refusal5 : Geometry → Named → Named → Refusal
+refusal5 g first second = record { number = 5; applies = namedTwice g (lossOf first second) }
+
+-- ---- the order
+abbrev pub order : List ℕ → Geometry → List Refusal
+order job g =
+    refusal16 job
+    ∷ refusal17 job
+    ∷ refusal18 job
+    ∷ refusal19 (commandOf job)
+    ∷ refusal1 g
+    ∷ refusal2 g
+    ∷ refusal20 g
+    ∷ refusal3 g (length (stripeOf job))
+    ∷ refusal4 g (commandOf job) (firstDevice job) (secondDevice job)
+    ∷ refusal5 g (firstDevice job) (secondDevice job)
+    ∷ []
+
+unfoldable pub jobRefusal : List ℕ → ℕ
+jobRefusal job = firstOf (order job (geometryOf job))

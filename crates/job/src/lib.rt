@@ -1,0 +1,273 @@
+// One job: a header of 14 bytes and a stripe, answered by six bytes and, unless the job is refused,
+// the stripe after its encode or rebuild, or what a check of it found.
+use stripe::Checked;
+use stripe::Geometry;
+ghost use mathlib.Core.Path.{_≡_};
+ghost use Prim.Native.Nat.{_+_, _*_, _/_, _%_, _≤_};
+ghost use lib.ListN.{length, set};
+ghost use Rattle.stripe.specs.Codes.{namedBy};
+ghost use Rattle.stripe.specs.Refusals.{firstOf, encodeRefusal};
+ghost use Rattle.stripe.specs.Stripe.{verdicts};
+ghost use Rattle.job.specs.Fields.{fields};
+ghost use Rattle.job.specs.Header.{geometryOf, stripeOf};
+ghost use Rattle.job.specs.Refusals.{jobRefusal};
+ghost use Rattle.job.specs.Answer.{opening, report, body, answered, AnswerCall};
+ghost use Rattle.job.specs.Parts.{FieldRead, headerRefusals, shapeRefusals, deviceRefusals, placeOf};
+
+// The device code that means none.
+const NONE: usize = 65535;
+
+// Puts the answer to a job at the start of the output and returns its length. Where the output has
+// no room for it, writes nothing and returns 0.
+pub fn answer(job: &[u8], out: &mut [u8]) -> usize
+    ensures { λ r. ⌜ AnswerCall (now (job .entry)) (now (out .entry)) r (now (out .exit)) ⌝ }
+{
+    let refused = refusal(job);
+    let len = answer_length(job, refused);
+    if out.len() < len {
+        return 0;
+    }
+    respond(job, refused, &mut out[..len]);
+    len
+}
+
+// ---- the refusals, in three stretches of their order
+
+fn refusal(job: &[u8]) -> u8
+    ensures { λ r. ⌜ r ≡ jobRefusal (now (job .entry)) ⌝ }
+{
+    let refused = header_refusal(job);
+    if refused != 0 {
+        return refused;
+    }
+    let g = geometry(job);
+    let misshapen = shape_refusal(g, job.len() - 14);
+    if misshapen != 0 {
+        return misshapen;
+    }
+    device_refusal(g, job[5], field(job, 10), field(job, 12))
+}
+
+// 16 to 19.
+fn header_refusal(job: &[u8]) -> u8
+    ensures { λ r. ⌜ r ≡ firstOf (headerRefusals (now (job .entry))) ⌝ }
+{
+    if job.len() < 14 {
+        return 16;
+    }
+    if job[0] != 0x53 {
+        return 17;
+    }
+    if job[1] != 0x52 {
+        return 17;
+    }
+    if job[2] != 0x4a {
+        return 17;
+    }
+    if field(job, 3) != 1 {
+        return 18;
+    }
+    let command = job[5];
+    if command == 0 {
+        return 19;
+    }
+    if 3 < command {
+        return 19;
+    }
+    0
+}
+
+// 1, 2, 20 and 3.
+fn shape_refusal(g: Geometry, len: usize) -> u8
+    ensures { λ r. ⌜ r ≡ firstOf (shapeRefusals g len) ⌝ }
+{
+    if g.n == 0 {
+        return 1;
+    }
+    if 255 < g.n {
+        return 1;
+    }
+    if g.b == 0 {
+        return 2;
+    }
+    if 4096 < g.b {
+        return 2;
+    }
+    let size = (g.n + 2) * g.b;
+    if 61440 < size {
+        return 20;
+    }
+    if len != size {
+        return 3;
+    }
+    0
+}
+
+// 4 and 5.
+fn device_refusal(g: Geometry, command: u8, first: usize, second: usize) -> u8
+    requires { ⌜ g .n ≤ 255 ⌝ }
+    ensures { λ r. ⌜ r ≡ firstOf (deviceRefusals g command (namedBy first) (namedBy second)) ⌝ }
+{
+    if command == 2 {
+        return loss_refusal(g, first, second);
+    }
+    if first != NONE {
+        return 4;
+    }
+    if second != NONE {
+        return 4;
+    }
+    0
+}
+
+// Those of a rebuild.
+fn loss_refusal(g: Geometry, first: usize, second: usize) -> u8
+    requires { ⌜ g .n ≤ 255 ⌝ }
+    ensures { λ r. ⌜ r ≡ firstOf (deviceRefusals g 2 (namedBy first) (namedBy second)) ⌝ }
+{
+    let absent = g.n + 2;
+    let x = place(g, first);
+    if x == absent {
+        return 4;
+    }
+    if second == NONE {
+        return 0;
+    }
+    let y = place(g, second);
+    if y == absent {
+        return 4;
+    }
+    if x == y {
+        return 5;
+    }
+    0
+}
+
+// The role of the device that a code names, and n + 2 where the stripe has no such device.
+fn place(g: Geometry, code: usize) -> usize
+    requires { ⌜ g .n ≤ 255 ⌝ }
+    ensures { λ r. ⌜ r ≡ placeOf g (namedBy code) ⌝ }
+{
+    if code < g.n {
+        return code;
+    }
+    if code == 256 {
+        return g.n;
+    }
+    if code == 257 {
+        return g.n + 1;
+    }
+    g.n + 2
+}
+
+// ---- the answer
+
+fn answer_length(job: &[u8], refused: u8) -> usize
+    requires { ⌜ refused ≡ jobRefusal (now job) ⌝ }
+    ensures { λ r. ⌜ r ≡ length (answered (now (job .entry))) ⌝ }
+{
+    if refused != 0 {
+        return 6;
+    }
+    if job[5] == 3 {
+        return 8 + 2 * field(job, 8);
+    }
+    job.len() - 8
+}
+
+fn respond(job: &[u8], refused: u8, out: &mut [u8])
+    requires { ⌜ (refused ≡ jobRefusal (now job)) × (length (now out) ≡ length (answered (now job))) ⌝ }
+    ensures { λ _. ⌜ now (out .exit) ≡ answered (now (job .entry)) ⌝ }
+{
+    let start = first_six(refused);
+    bytes::copy(&start, out);
+    if refused == 0 {
+        run(job, &mut out[6..]);
+    }
+}
+
+fn first_six(result: u8) -> [u8; 6]
+    ensures { λ r. ⌜ r ≡ opening result ⌝ }
+{
+    [0x53, 0x52, 0x4a, 0, 1, result]
+}
+
+fn run(job: &[u8], out: &mut [u8])
+    requires { ⌜ (jobRefusal (now job) ≡ 0) × (length (now out) ≡ length (body (now job))) ⌝ }
+    ensures { λ _. ⌜ now (out .exit) ≡ body (now (job .entry)) ⌝ }
+{
+    let g = geometry(job);
+    let command = job[5];
+    let stripe = &job[14..];
+    if command == 3 {
+        check(g, stripe, out);
+        return;
+    }
+    bytes::copy(stripe, out);
+    if command == 1 {
+        stripe::encode(g, out);
+        return;
+    }
+    stripe::rebuild_named(g, out, field(job, 10), field(job, 12));
+}
+
+fn check(g: Geometry, stripe: &[u8], out: &mut [u8])
+    requires { ⌜ (encodeRefusal g (length (now stripe)) ≡ 0) × (length (now out) ≡ 2 + 2 * g .b) ⌝ }
+    ensures { λ _. ⌜ now (out .exit) ≡ report (verdicts g (now (stripe .entry))) ⌝ }
+{
+    let mut room = [0u16; 4096];
+    let b = g.b;
+    check_in(g, stripe, &mut room[..b], out);
+}
+
+// The check with a room for its verdicts. It is not refused.
+fn check_in(g: Geometry, stripe: &[u8], room: &mut [u16], out: &mut [u8])
+    requires { ⌜ (encodeRefusal g (length (now stripe)) ≡ 0) × (length (now room) ≡ g .b) × (length (now out) ≡ 2 + 2 * g .b) ⌝ }
+    ensures { λ _. ⌜ now (out .exit) ≡ report (verdicts g (now (stripe .entry))) ⌝ }
+{
+    let Checked::Summary(summary) = stripe::check(g, stripe, room) else {
+        return;
+    };
+    put(out, 0, summary);
+    put_all(room, &mut out[2..]);
+}
+
+fn put_all(values: &[u16], out: &mut [u8])
+    requires { ⌜ length (now out) ≡ 2 * length (now values) ⌝ }
+    ensures { λ _. ⌜ now (out .exit) ≡ fields (now (values .entry)) ⌝ }
+{
+    let mut i = 0;
+    while i < values.len() {
+        put(out, 2 * i, values[i]);
+        i += 1;
+    }
+}
+
+// ---- 16-bit fields, high byte first
+
+fn put(out: &mut [u8], at: usize, value: u16)
+    requires { ⌜ at + 2 ≤ length (now out) ⌝ }
+    ensures { λ _. ⌜ now (out .exit) ≡ set (set (now (out .entry)) at (value / 256)) (at + 1) (value % 256) ⌝ }
+{
+    out[at] = (value / 256) as u8;
+    out[at + 1] = (value % 256) as u8;
+}
+
+fn geometry(job: &[u8]) -> Geometry
+    requires { ⌜ 14 ≤ length (now job) ⌝ }
+    ensures { λ r. ⌜ r ≡ geometryOf (now (job .entry)) ⌝ }
+{
+    Geometry {
+        n: field(job, 6),
+        b: field(job, 8),
+    }
+}
+
+fn field(bytes: &[u8], at: usize) -> usize
+    requires { ⌜ at + 2 ≤ length (now bytes) ⌝ }
+    ensures { λ r. ⌜ FieldRead (now (bytes .entry)) at r ⌝ }
+{
+    let high = bytes[at];
+    let low = bytes[at + 1];
+    (high as usize) * 256 + low as usize
+}
