@@ -10,10 +10,10 @@ use lib.Dec.{eqb, ltb}
 use lib.ListN.{length}
 use Rattle.stripe.specs.declared.Geometry.{Geometry}
 use Rattle.stripe.specs.Stripe.{size}
-use Rattle.stripe.specs.Refusals.{encodeRefusal}
+use Rattle.stripe.specs.Refusals.{refusal1, refusal2, refusal3, encodeRefusal}
 use Rattle.stripe.proofs.Refused.{either-false}
 use Rattle.job.specs.Header.{commandOf, geometryOf, firstDevice, secondDevice, stripeOf}
-use Rattle.job.specs.Refusals.{order, refusal4, refusal5, jobRefusal}
+use Rattle.job.specs.Refusals.{order, refusal4, refusal5, refusal16, refusal19, refusal20, jobRefusal}
 use Rattle.job.proofs.Order.{none-applies}
 
 pub record Accepted (job : List ℕ) : Type 0 where
@@ -29,16 +29,19 @@ pub accepted : (job : List ℕ) → jobRefusal job ≡ 0 → Accepted job
 unfolding jobRefusal
 accepted job e =
     let none = none-applies (order job (geometryOf job)) refl e in
-    let command = either-false (eqb (commandOf job) 0) (ltb 3 (commandOf job)) (none .1 .1 .1 .0) in
-    let one = none .1 .1 .1 .1 .0 in
-    let two = none .1 .1 .1 .1 .1 .0 in
-    let three = none .1 .1 .1 .1 .1 .1 .1 .0 in
+    let short : refusal16 job .applies ≡ false = search in
+    let command : refusal19 (commandOf job) .applies ≡ false = search in
+    let one : refusal1 (geometryOf job) .applies ≡ false = search in
+    let two : refusal2 (geometryOf job) .applies ≡ false = search in
+    let large : refusal20 (geometryOf job) .applies ≡ false = search in
+    let three : refusal3 (geometryOf job) (length (stripeOf job)) .applies ≡ false = search in
+    let one-to-three = either-false (eqb (commandOf job) 0) (ltb 3 (commandOf job)) command in
     record {
-      long = ltb-false (length job) 14 (none .0);
-      some = pos-of-ne-zero (eqb-false (commandOf job) 0 (command .0));
-      known = ltb-false 3 (commandOf job) (command .1);
-      fits = ltb-false 61440 (size (geometryOf job)) (none .1 .1 .1 .1 .1 .1 .0);
+      long = ltb-false (length job) 14 short;
+      some = pos-of-ne-zero (eqb-false (commandOf job) 0 (one-to-three .0));
+      known = ltb-false 3 (commandOf job) (one-to-three .1);
+      fits = ltb-false 61440 (size (geometryOf job)) large;
       shape = simp (one, two, three);
-      named = none .1 .1 .1 .1 .1 .1 .1 .1 .0;
-      apart = none .1 .1 .1 .1 .1 .1 .1 .1 .1 .0;
+      named = search;
+      apart = search;
     }

@@ -43,4 +43,4 @@ answered job = opening (jobRefusal job) ++ unlessRefused (jobRefusal job) (body 
 pub record AnswerCall (job before : List ℕ) (r : ℕ) (after : List ℕ) : Type 0 where
   pub count : r ≡ choose (leb (length (answered job)) (length before)) (length (answered job)) 0
   pub output :
-    after ≡ choose (leb (length (answered job)) (length before)) (answered job ++ drop (length (answered job)) before) before
+      after ≡ choose (leb (length (answered job)) (length before)) (answered job ++ drop (length (answered job)) before) before

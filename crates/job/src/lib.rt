@@ -175,15 +175,16 @@ fn answer_length(job: &[u8], refused: u8) -> usize
     job.len() - 8
 }
 
-fn respond(job: &[u8], refused: u8, out: &mut [u8])
-    requires { ⌜ (refused ≡ jobRefusal (now job)) × (length (now out) ≡ length (answered (now job))) ⌝ }
+fn respond(job: &[u8], result: u8, out: &mut [u8])
+    requires { ⌜ (result ≡ jobRefusal (now job)) × (length (now out) ≡ length (answered (now job))) ⌝ }
     ensures { λ _. ⌜ now (out .exit) ≡ answered (now (job .entry)) ⌝ }
 {
-    let start = first_six(refused);
+    let start = first_six(result);
     bytes::copy(&start, out);
-    if refused == 0 {
-        run(job, &mut out[6..]);
+    if result != 0 {
+        return;
     }
+    run(job, &mut out[6..]);
 }
 
 fn first_six(result: u8) -> [u8; 6]

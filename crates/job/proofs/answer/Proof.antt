@@ -32,7 +32,7 @@ slice-aggregate-respond : tie.Need-slice-aggregate-respond
 slice-aggregate-respond c = sym (length-take-le (c .before .before .answer-length .result) (c .before .before .before .before .before .before .args .out .now) (c .before .if1 .left))
 
 respond-requires : tie.Need-respond-requires
-respond-requires c κs =     (c .before .before .before .refusal .ensures, length-take-le (c .before .before .answer-length .result) (c .before .before .before .before .before .before .args .out .now) (c .before .if1 .left) ∙ c .before .before .answer-length .ensures)
+respond-requires c κs = (c .before .before .before .refusal .ensures, length-take-le (c .before .before .answer-length .result) (c .before .before .before .before .before .before .args .out .now) (c .before .if1 .left) ∙ c .before .before .answer-length .ensures)
 
 same-length : tie.Need-same-length
 same-length c = search needs

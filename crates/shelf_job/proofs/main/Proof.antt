@@ -1,49 +1,42 @@
+-- `shelf_job::main` is safe: what `job::answer` returns counts bytes of the output.
+-- Assumes nothing.
+use mathlib.Core.Path.{sym}
+use native.Mathlib.Omega.{arith}
 use borrow.Author.Needs.{needs}
+use lib.Seq.{length-take-le}
+use Rattle.job.proofs.Answers.{answer-within}
 use Rattle.shelf_job.proofs.main.Statement.{statement}
 use Rattle.shelf_job.proofs.main.Tie as tie
-use Rattle.shelf_job.proofs.main.Reads as reads
-use Rattle.shelf_job.proofs.main.Lts as lts
-use Rattle.io.proofs.read_full.Reads as read-full-reads
-use Rattle.io.proofs.write_all.Reads as write-all-reads
-use Rattle.job.proofs.answer.Reads as answer-reads
 
--- src/main.rt:5:30
 slice-aggregate-read-full : tie.Need-slice-aggregate-read-full
 slice-aggregate-read-full c = search needs
 
--- src/main.rt:5:9
 read-full-requires : tie.Need-read-full-requires
 read-full-requires c κs = search needs
 
--- src/main.rt:7:29
 array-share-prefix-input : tie.Need-array-share-prefix-input
 array-share-prefix-input c = search needs
 
--- src/main.rt:7:29
 slice-aggregate-answer : tie.Need-slice-aggregate-answer
 slice-aggregate-answer c = search needs
 
--- src/main.rt:7:42
 slice-aggregate-answer-2 : tie.Need-slice-aggregate-answer-2
 slice-aggregate-answer-2 c = search needs
 
--- src/main.rt:7:9
 answer-requires : tie.Need-answer-requires
 answer-requires c κs = search needs
 
--- src/main.rt:8:22
 array-share-prefix-output : tie.Need-array-share-prefix-output
-array-share-prefix-output c = ?
+array-share-prefix-output c = omega (arith, answer-within (c .before .answer .ensures), c .before .answer .kept .1 .0)
 
--- src/main.rt:8:22
 slice-aggregate-write-all : tie.Need-slice-aggregate-write-all
-slice-aggregate-write-all c = ?
+slice-aggregate-write-all c =
+    let a = c .before .before .answer in
+    sym (length-take-le (a .result) (a .last .1 .0) (omega (arith, answer-within (a .ensures), a .kept .1 .0)))
 
--- src/main.rt:8:5
 write-all-requires : tie.Need-write-all-requires
 write-all-requires c κs = search needs
 
--- src/main.rt:3:1
 returns : tie.Need-returns
 returns c = search needs
 
