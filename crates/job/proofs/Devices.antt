@@ -1,6 +1,6 @@
 -- What a device code names, as the places that the code compares tell it.
 -- Assumes nothing.
-use mathlib.Core.Path.{_≡_, refl, sym, ap, _∙_}
+use mathlib.Core.Path.{_≡_, refl, sym, ap₂, _∙_}
 use mathlib.Core.Logic.{_≢_}
 use mathlib.Core.Bool.{Bool, true, false}
 use Prim.Native.Nat.{ℕ, _+_, _≤_, _<_}
@@ -58,8 +58,8 @@ place-unknown g d = go (unknown g d) refl
 abbrev pub byPlaces : ℕ → ℕ → Bool → ℕ → ℕ
 byPlaces absent x none y = choose (eqb x absent) 4 (choose none 0 (choose (eqb y absent) 4 (choose (eqb x y) 5 0)))
 
-pub by-places : (g : Geometry) (a b : Named) → firstOf (deviceRefusals g 2 a b) ≡ byPlaces (g .n + 2) (placeOf g a) (isNone b) (placeOf g b)
-by-places g (Known d) (Known e) =
+places : (g : Geometry) (a b : Named) → firstOf (deviceRefusals g 2 a b) ≡ byPlaces (g .n + 2) (placeOf g a) (isNone b) (placeOf g b)
+places g (Known d) (Known e) =
     rw (place-unknown g d, place-unknown g e) (go (unknown g d) (unknown g e) (roleOf (g .n) d) (roleOf (g .n) e))
   where
     go : (u v : Bool) (x y : ℕ)
@@ -68,11 +68,16 @@ by-places g (Known d) (Known e) =
     go true v x y = refl
     go false true x y = refl
     go false false x y = refl
-by-places g (Known d) Nothing = rw (place-unknown g d)
-by-places g (Known d) Meaningless = rw (place-unknown g d, eq-eqb (g .n + 2) (g .n + 2) refl) (go (unknown g d))
+places g (Known d) Nothing = rw (place-unknown g d)
+places g (Known d) Meaningless = rw (place-unknown g d, eq-eqb (g .n + 2) (g .n + 2) refl) (go (unknown g d))
   where
     go : (u : Bool) → _≡_ {A = ℕ} 4 (choose u 4 4)
     go true = refl
     go false = refl
-by-places g Nothing b = rw (eq-eqb (g .n + 2) (g .n + 2) refl)
-by-places g Meaningless b = rw (eq-eqb (g .n + 2) (g .n + 2) refl)
+places g Nothing b = rw (eq-eqb (g .n + 2) (g .n + 2) refl)
+places g Meaningless b = rw (eq-eqb (g .n + 2) (g .n + 2) refl)
+
+-- the same of places that are computed
+pub by-places : (g : Geometry) (a b : Named) {x y : ℕ} → x ≡ placeOf g a → y ≡ placeOf g b
+    → firstOf (deviceRefusals g 2 a b) ≡ byPlaces (g .n + 2) x (isNone b) y
+by-places g a b e f = places g a b ∙ sym (ap₂ (λ (x y : ℕ). byPlaces (g .n + 2) x (isNone b) y) e f)

@@ -11,7 +11,7 @@ ghost use Rattle.stripe.specs.Stripe.{verdicts};
 ghost use Rattle.job.specs.Fields.{fields};
 ghost use Rattle.job.specs.Header.{geometryOf, stripeOf};
 ghost use Rattle.job.specs.Refusals.{jobRefusal};
-ghost use Rattle.job.specs.Answer.{opening, report, body, answered, AnswerCall};
+ghost use Rattle.job.specs.Answer.{report, body, answered, AnswerCall};
 ghost use Rattle.job.specs.Parts.{FieldRead, headerRefusals, shapeRefusals, deviceRefusals, placeOf};
 
 // The device code that means none.
@@ -179,18 +179,12 @@ fn respond(job: &[u8], result: u8, out: &mut [u8])
     requires { ⌜ (result ≡ jobRefusal (now job)) × (length (now out) ≡ length (answered (now job))) ⌝ }
     ensures { λ _. ⌜ now (out .exit) ≡ answered (now (job .entry)) ⌝ }
 {
-    let start = first_six(result);
-    bytes::copy(&start, out);
+    let opening = [0x53, 0x52, 0x4a, 0, 1, result];
+    bytes::copy(&opening, out);
     if result != 0 {
         return;
     }
     run(job, &mut out[6..]);
-}
-
-fn first_six(result: u8) -> [u8; 6]
-    ensures { λ r. ⌜ r ≡ opening result ⌝ }
-{
-    [0x53, 0x52, 0x4a, 0, 1, result]
 }
 
 fn run(job: &[u8], out: &mut [u8])

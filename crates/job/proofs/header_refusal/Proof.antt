@@ -1,10 +1,26 @@
 -- `job::header_refusal` meets its contract: each `return` rewrites by the tests that led there.
 -- Assumes nothing.
-use mathlib.Core.Path.{sym, _∙_}
+use mathlib.Core.Path.{_≡_, sym, _∙_}
+use mathlib.Core.List.{List, [], _∷_}
 use borrow.Author.Needs.{needs}
 use borrow.Author.Tests.{eq-eqb, ne-eqb, lt-ltb, le-ltb}
+use Rattle.stripe.specs.Refusals.{Refusal, firstOf}
+use Rattle.job.specs.Header.{commandOf}
+use Rattle.job.specs.Refusals.{refusal16, refusal17, refusal18, refusal19}
 use Rattle.job.proofs.header_refusal.Statement.{statement}
 use Rattle.job.proofs.header_refusal.Tie as tie
+
+-- 16, 17 and 18 do not apply where the command is tested
+passed : (c : tie.Else5) (rs : List Refusal)
+    → let job = c .before .before .before .before .before .before .before .before .before .before .args .job .now in firstOf (refusal16 job ∷ refusal17 job ∷ refusal18 job ∷ rs) ≡ firstOf rs
+passed c rs =
+    simp (
+      le-ltb _ _ (c .before .before .before .before .before .before .before .before .if1 .left),
+      eq-eqb _ _ (c .before .before .before .before .before .before .if2 .left),
+      eq-eqb _ _ (c .before .before .before .before .if3 .left),
+      eq-eqb _ _ (c .before .before .if4 .left),
+      eq-eqb _ _ (sym (c .before .field .ensures .value) ∙ c .if5 .left),
+    )
 
 returns : tie.Need-returns
 returns c = simp (lt-ltb _ _ (c .if1 .taken))
@@ -56,38 +72,18 @@ shared-slice-read-command c = search needs
 
 returns-6 : tie.Need-returns-6
 returns-6 c =
-    simp (
-      le-ltb _ _ (c .before .before .before .before .before .before .before .before .before .before .if1 .left),
-      eq-eqb _ _ (c .before .before .before .before .before .before .before .before .if2 .left),
-      eq-eqb _ _ (c .before .before .before .before .before .before .if3 .left),
-      eq-eqb _ _ (c .before .before .before .before .if4 .left),
-      eq-eqb _ _ (sym (c .before .before .before .field .ensures .value) ∙ c .before .before .if5 .left),
-      eq-eqb _ _ (c .if6 .taken),
-    )
+    let job = c .before .before .before .before .before .before .before .before .before .before .before .before .args .job .now in
+    sym (passed (c .before .before) (refusal19 (commandOf job) ∷ []) ∙ simp (eq-eqb _ _ (c .if6 .taken)))
 
 returns-7 : tie.Need-returns-7
 returns-7 c =
-    simp (
-      le-ltb _ _ (c .before .before .before .before .before .before .before .before .before .before .before .if1 .left),
-      eq-eqb _ _ (c .before .before .before .before .before .before .before .before .before .if2 .left),
-      eq-eqb _ _ (c .before .before .before .before .before .before .before .if3 .left),
-      eq-eqb _ _ (c .before .before .before .before .before .if4 .left),
-      eq-eqb _ _ (sym (c .before .before .before .before .field .ensures .value) ∙ c .before .before .before .if5 .left),
-      ne-eqb _ _ (c .before .if6 .left),
-      lt-ltb _ _ (c .if7 .taken),
-    )
+    let job = c .before .before .before .before .before .before .before .before .before .before .before .before .before .args .job .now in
+    sym (passed (c .before .before .before) (refusal19 (commandOf job) ∷ []) ∙ simp (ne-eqb _ _ (c .before .if6 .left), lt-ltb _ _ (c .if7 .taken)))
 
 returns-8 : tie.Need-returns-8
 returns-8 c =
-    simp (
-      le-ltb _ _ (c .before .before .before .before .before .before .before .before .before .before .before .if1 .left),
-      eq-eqb _ _ (c .before .before .before .before .before .before .before .before .before .if2 .left),
-      eq-eqb _ _ (c .before .before .before .before .before .before .before .if3 .left),
-      eq-eqb _ _ (c .before .before .before .before .before .if4 .left),
-      eq-eqb _ _ (sym (c .before .before .before .before .field .ensures .value) ∙ c .before .before .before .if5 .left),
-      ne-eqb _ _ (c .before .if6 .left),
-      le-ltb _ _ (c .if7 .left),
-    )
+    let job = c .before .before .before .before .before .before .before .before .before .before .before .before .before .args .job .now in
+    sym (passed (c .before .before .before) (refusal19 (commandOf job) ∷ []) ∙ simp (ne-eqb _ _ (c .before .if6 .left), le-ltb _ _ (c .if7 .left)))
 
 pub header-refusal-spec : {M : Type 1} → statement M
 header-refusal-spec =

@@ -1,6 +1,6 @@
 -- `job::loss_refusal` meets its contract: it compares the places of the two devices.
 -- Assumes nothing.
-use mathlib.Core.Path.{sym, _∙_}
+use mathlib.Core.Path.{refl, sym, _∙_}
 use borrow.Author.Needs.{needs}
 use borrow.Author.Tests.{eq-eqb, ne-eqb}
 use Rattle.stripe.specs.Codes.{namedBy}
@@ -17,12 +17,14 @@ place-requires c κs = search needs
 returns : tie.Need-returns
 returns c =
     let a = c .before .before .before .args in
-    sym (by-places (a .g) (namedBy (a .first)) (namedBy (a .second)) ∙ simp (eq-eqb _ _ (sym (c .before .place .ensures) ∙ c .if1 .taken)))
+    sym (by-places (a .g) (namedBy (a .first)) (namedBy (a .second)) (c .before .place .ensures) refl
+    ∙ simp (eq-eqb _ _ (c .if1 .taken)))
 
 returns-2 : tie.Need-returns-2
 returns-2 c =
     let a = c .before .before .before .before .args in
-    sym (by-places (a .g) (namedBy (a .first)) (namedBy (a .second)) ∙ simp (ne-eqb _ _ (λ e. c .before .if1 .left (c .before .before .place .ensures ∙ e)), none-named (c .if2 .taken)))
+    sym (by-places (a .g) (namedBy (a .first)) (namedBy (a .second)) (c .before .before .place .ensures) refl
+    ∙ simp (ne-eqb _ _ (c .before .if1 .left), none-named (c .if2 .taken)))
 
 place-requires-2 : tie.Need-place-requires-2
 place-requires-2 c κs = search needs
@@ -30,17 +32,20 @@ place-requires-2 c κs = search needs
 returns-3 : tie.Need-returns-3
 returns-3 c =
     let a = c .before .before .before .before .before .before .args in
-    sym (by-places (a .g) (namedBy (a .first)) (namedBy (a .second)) ∙ simp (ne-eqb _ _ (λ e. c .before .before .before .if1 .left (c .before .before .before .before .place .ensures ∙ e)), some-named (a .second) (c .before .before .if2 .left), eq-eqb _ _ (sym (c .before .place2 .ensures) ∙ c .if3 .taken)))
+    sym (by-places (a .g) (namedBy (a .first)) (namedBy (a .second)) (c .before .before .before .before .place .ensures) (c .before .place2 .ensures)
+    ∙ simp (ne-eqb _ _ (c .before .before .before .if1 .left), some-named (a .second) (c .before .before .if2 .left), eq-eqb _ _ (c .if3 .taken)))
 
 returns-4 : tie.Need-returns-4
 returns-4 c =
     let a = c .before .before .before .before .before .before .before .args in
-    sym (by-places (a .g) (namedBy (a .first)) (namedBy (a .second)) ∙ simp (ne-eqb _ _ (λ e. c .before .before .before .before .if1 .left (c .before .before .before .before .before .place .ensures ∙ e)), some-named (a .second) (c .before .before .before .if2 .left), ne-eqb _ _ (λ e. c .before .if3 .left (c .before .before .place2 .ensures ∙ e)), eq-eqb _ _ (sym (c .before .before .before .before .before .place .ensures) ∙ c .if4 .taken ∙ c .before .before .place2 .ensures)))
+    sym (by-places (a .g) (namedBy (a .first)) (namedBy (a .second)) (c .before .before .before .before .before .place .ensures) (c .before .before .place2 .ensures)
+    ∙ simp (ne-eqb _ _ (c .before .before .before .before .if1 .left), some-named (a .second) (c .before .before .before .if2 .left), ne-eqb _ _ (c .before .if3 .left), eq-eqb _ _ (c .if4 .taken)))
 
 returns-5 : tie.Need-returns-5
 returns-5 c =
     let a = c .before .before .before .before .before .before .before .args in
-    sym (by-places (a .g) (namedBy (a .first)) (namedBy (a .second)) ∙ simp (ne-eqb _ _ (λ e. c .before .before .before .before .if1 .left (c .before .before .before .before .before .place .ensures ∙ e)), some-named (a .second) (c .before .before .before .if2 .left), ne-eqb _ _ (λ e. c .before .if3 .left (c .before .before .place2 .ensures ∙ e)), ne-eqb _ _ (λ e. c .if4 .left (c .before .before .before .before .before .place .ensures ∙ e ∙ sym (c .before .before .place2 .ensures)))))
+    sym (by-places (a .g) (namedBy (a .first)) (namedBy (a .second)) (c .before .before .before .before .before .place .ensures) (c .before .before .place2 .ensures)
+    ∙ simp (ne-eqb _ _ (c .before .before .before .before .if1 .left), some-named (a .second) (c .before .before .before .if2 .left), ne-eqb _ _ (c .before .if3 .left), ne-eqb _ _ (c .if4 .left)))
 
 pub loss-refusal-spec : {M : Type 1} → statement M
 loss-refusal-spec =

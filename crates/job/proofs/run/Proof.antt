@@ -22,8 +22,10 @@ use Rattle.job.proofs.run.Tie as tie
 ok : (c : tie.Start) → Accepted (c .args .job .now)
 ok c = accepted (c .args .job .now) (c .pre .0)
 
-room : (c : tie.Else1) → length (c .before .before .before .before .before .before .args .out .now) ≡ length (stripeOf (c .before .before .before .before .before .before .args .job .now))
-room c = c .before .before .before .before .before .before .pre .1 ∙ length-stripe (c .before .before .before .before .before .before .args .job .now) (ok (c .before .before .before .before .before .before)) (c .if1 .left)
+room : (c : tie.Else1) → let a = c .before .before .before .before .before .before .args in length (a .out .now) ≡ length (stripeOf (a .job .now))
+room c =
+    let s = c .before .before .before .before .before .before in
+    s .pre .1 ∙ length-stripe (s .args .job .now) (ok s) (c .if1 .left)
 
 -- the output holds the stripe
 copied : (c : tie.After-slice-known3) → c .before .before .copy .last .1 .0 ≡ stripeOf (c .before .before .before .before .before .before .before .before .before .before .args .job .now)
@@ -78,9 +80,11 @@ same-length-2 c = search needs
 
 returns-2 : tie.Need-returns-2
 returns-2 c =
+    let s = c .before .before .before .before .before .before .before .before .before .before .before .before .before .before .before in
+    let g = c .before .before .before .before .before .before .before .before .before .before .before .before .geometry in
     c .before .before .encode .ensures .stripe
-    ∙ ap₂ afterEncode (c .before .before .before .before .before .before .before .before .before .before .before .before .geometry .ensures) (copied (c .before .before .before .before .before))
-    ∙ encode-done (c .before .before .before .before .before .before .before .before .before .before .before .before .before .before .before .args .job .now) (ok (c .before .before .before .before .before .before .before .before .before .before .before .before .before .before .before)) (c .before .before .before .before .if2 .taken)
+    ∙ ap₂ afterEncode (g .ensures) (copied (c .before .before .before .before .before))
+    ∙ encode-done (s .args .job .now) (ok s) (c .before .before .before .before .if2 .taken)
 
 field-requires : tie.Need-field-requires
 field-requires c κs = omega (arith, ok (c .before .before .before .before .before .before .before .before .before .before .before .before) .long)
@@ -96,11 +100,15 @@ same-length-3 c = search needs
 
 returns-3 : tie.Need-returns-3
 returns-3 c =
-    let job = c .before .before .before .before .before .before .before .before .before .before .before .before .before .before .before .before .before .args .job .now in
+    let s = c .before .before .before .before .before .before .before .before .before .before .before .before .before .before .before .before .before in
+    let job = s .args .job .now in
+    let g = c .before .before .before .before .before .before .before .before .before .before .before .before .before .before .geometry in
+    let first = c .before .before .before .before .field in
+    let second = c .before .before .before .field2 in
     c .before .before .rebuild-named .ensures .stripe
-    ∙ ap₂ (λ (g : Geometry) (l : List ℕ). rebuiltBy g (namingOf (c .before .before .before .before .field .result) (c .before .before .before .field2 .result)) l) (c .before .before .before .before .before .before .before .before .before .before .before .before .before .before .geometry .ensures) (copied (c .before .before .before .before .before .before .before))
-    ∙ ap₂ (λ (x y : ℕ). rebuiltBy (geometryOf job) (namingOf x y) (stripeOf job)) (c .before .before .before .before .field .ensures .value) (c .before .before .before .field2 .ensures .value)
-    ∙ rebuild-done job (ok (c .before .before .before .before .before .before .before .before .before .before .before .before .before .before .before .before .before)) (other job (ok (c .before .before .before .before .before .before .before .before .before .before .before .before .before .before .before .before .before)) (c .before .before .before .before .before .before .if2 .left) (c .before .before .before .before .before .before .before .before .before .before .before .if1 .left))
+    ∙ ap₂ (λ (g : Geometry) (l : List ℕ). rebuiltBy g (namingOf (first .result) (second .result)) l) (g .ensures) (copied (c .before .before .before .before .before .before .before))
+    ∙ ap₂ (λ (x y : ℕ). rebuiltBy (geometryOf job) (namingOf x y) (stripeOf job)) (first .ensures .value) (second .ensures .value)
+    ∙ rebuild-done job (ok s) (other job (ok s) (c .before .before .before .before .before .before .if2 .left) (c .before .before .before .before .before .before .before .before .before .before .before .if1 .left))
 
 pub run-spec : {M : Type 1} → statement M
 run-spec =

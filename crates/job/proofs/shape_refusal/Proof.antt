@@ -1,12 +1,26 @@
 -- `job::shape_refusal` meets its contract: each `return` rewrites by the tests that led there.
 -- Assumes nothing.
-use Prim.Native.Nat.{ℕ, _+_}
+use mathlib.Core.Path.{_≡_, sym, _∙_}
+use mathlib.Core.List.{List, [], _∷_}
+use Prim.Native.Nat.{_+_}
 use native.Mathlib.Nat.{mul-le-mul}
 use native.Mathlib.Omega.{arith}
 use borrow.Author.Needs.{needs}
 use borrow.Author.Tests.{eq-eqb, ne-eqb, lt-ltb, le-ltb}
+use Rattle.stripe.specs.Refusals.{Refusal, firstOf, refusal1, refusal2, refusal3}
+use Rattle.job.specs.Refusals.{refusal20}
 use Rattle.job.proofs.shape_refusal.Statement.{statement}
 use Rattle.job.proofs.shape_refusal.Tie as tie
+
+-- 1 and 2 do not apply where the size is computed
+passed : (c : tie.Else4) (rs : List Refusal) → let g = c .before .before .before .before .before .before .before .before .args .g in firstOf (refusal1 g ∷ refusal2 g ∷ rs) ≡ firstOf rs
+passed c rs =
+    simp (
+      ne-eqb _ _ (c .before .before .before .before .before .before .if1 .left),
+      le-ltb _ _ (c .before .before .before .before .if2 .left),
+      ne-eqb _ _ (c .before .before .if3 .left),
+      le-ltb _ _ (c .if4 .left),
+    )
 
 returns : tie.Need-returns
 returns c = simp (eq-eqb _ _ (c .if1 .taken))
@@ -41,35 +55,18 @@ mul-size c =
 
 returns-5 : tie.Need-returns-5
 returns-5 c =
-    simp (
-      ne-eqb _ _ (c .before .before .before .before .before .before .before .before .before .if1 .left),
-      le-ltb _ _ (c .before .before .before .before .before .before .before .if2 .left),
-      ne-eqb _ _ (c .before .before .before .before .before .if3 .left),
-      le-ltb _ _ (c .before .before .before .if4 .left),
-      lt-ltb _ _ (c .if5 .taken),
-    )
+    let a = c .before .before .before .before .before .before .before .before .before .before .before .args in
+    sym (passed (c .before .before .before) (refusal20 (a .g) ∷ refusal3 (a .g) (a .len) ∷ []) ∙ simp (lt-ltb _ _ (c .if5 .taken)))
 
 returns-6 : tie.Need-returns-6
 returns-6 c =
-    simp (
-      ne-eqb _ _ (c .before .before .before .before .before .before .before .before .before .before .if1 .left),
-      le-ltb _ _ (c .before .before .before .before .before .before .before .before .if2 .left),
-      ne-eqb _ _ (c .before .before .before .before .before .before .if3 .left),
-      le-ltb _ _ (c .before .before .before .before .if4 .left),
-      le-ltb _ _ (c .before .if5 .left),
-      ne-eqb _ _ (c .if6 .taken),
-    )
+    let a = c .before .before .before .before .before .before .before .before .before .before .before .before .args in
+    sym (passed (c .before .before .before .before) (refusal20 (a .g) ∷ refusal3 (a .g) (a .len) ∷ []) ∙ simp (le-ltb _ _ (c .before .if5 .left), ne-eqb _ _ (c .if6 .taken)))
 
 returns-7 : tie.Need-returns-7
 returns-7 c =
-    simp (
-      ne-eqb _ _ (c .before .before .before .before .before .before .before .before .before .before .if1 .left),
-      le-ltb _ _ (c .before .before .before .before .before .before .before .before .if2 .left),
-      ne-eqb _ _ (c .before .before .before .before .before .before .if3 .left),
-      le-ltb _ _ (c .before .before .before .before .if4 .left),
-      le-ltb _ _ (c .before .if5 .left),
-      eq-eqb _ _ (c .if6 .left),
-    )
+    let a = c .before .before .before .before .before .before .before .before .before .before .before .before .args in
+    sym (passed (c .before .before .before .before) (refusal20 (a .g) ∷ refusal3 (a .g) (a .len) ∷ []) ∙ simp (le-ltb _ _ (c .before .if5 .left), eq-eqb _ _ (c .if6 .left)))
 
 pub shape-refusal-spec : {M : Type 1} → statement M
 shape-refusal-spec =
