@@ -1,14 +1,13 @@
 -- What holds of a job that is not refused.
 -- Assumes nothing.
-use mathlib.Core.Path.{_≡_, refl, sym, ap, _∙_}
-use mathlib.Core.Bool.{Bool, true, false}
-use mathlib.Core.List.{List, [], _∷_}
+use mathlib.Core.Path.{_≡_, refl}
+use mathlib.Core.Bool.{false}
+use mathlib.Core.List.{List}
 use Prim.Native.Nat.{ℕ, _≤_, _<_}
 use native.Mathlib.Nat.{pos-of-ne-zero}
 use borrow.Author.Tests.{ltb-false, eqb-false}
 use lib.Dec.{eqb, ltb}
 use lib.ListN.{length}
-use Rattle.stripe.specs.declared.Geometry.{Geometry}
 use Rattle.stripe.specs.Stripe.{size}
 use Rattle.stripe.specs.Refusals.{refusal1, refusal2, refusal3, encodeRefusal}
 use Rattle.stripe.proofs.Refused.{either-false}

@@ -1,18 +1,16 @@
 -- The body of an accepted job's answer for each command, and its length.
 -- Assumes nothing.
 use mathlib.Core.Path.{_≡_, refl, sym, ap, _∙_}
-use mathlib.Core.Bool.{Bool, true, false}
+use mathlib.Core.Bool.{false}
 use mathlib.Core.List.{List, [], _∷_}
 use Prim.Native.Nat.{ℕ, _+_, _*_}
 use native.Mathlib.Omega.{arith}
 use native.Mathlib.Decide.{ℕ-discrete}
-use lib.Dec.{eqb}
 use lib.ListN.{length}
 use Rattle.stripe.specs.declared.Geometry.{Geometry}
-use Rattle.stripe.specs.declared.Lost.{Lost}
 use Rattle.stripe.specs.declared.Naming.{Naming}
 use Rattle.stripe.specs.declared.Naming.the-variants.{Loss, Wrong}
-use Rattle.stripe.specs.Column.{Column, reedSolomon, encodeColumn, rebuildColumn, verdict}
+use Rattle.stripe.specs.Column.{reedSolomon, encodeColumn, rebuildColumn, verdict}
 use Rattle.stripe.specs.Stripe.{column, encoded, rebuilt, verdicts, summary}
 use Rattle.stripe.specs.Refusals.{refusal4 as lostRefusal4, refusal5 as lostRefusal5, encodeRefusal, rebuildRefusal}
 use Rattle.stripe.specs.Calls.{afterEncode, afterRebuild}

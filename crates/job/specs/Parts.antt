@@ -2,13 +2,12 @@
 use Prim.Native.Nat.{ℕ, _+_, _<_}
 use mathlib.Core.Path.{_≡_}
 use mathlib.Core.List.{List, [], _∷_}
-use lib.ListN.{length}
 use Rattle.stripe.specs.declared.Geometry.{Geometry}
 use Rattle.stripe.specs.declared.Named.{Named}
 use Rattle.stripe.specs.declared.Named.the-variants.{Device, Nothing, Meaningless}
 use Rattle.stripe.specs.Choice.{choose}
 use Rattle.stripe.specs.Column.{roleOf}
-use Rattle.stripe.specs.Refusals.{Refusal, firstOf, refusal1, refusal2, refusal3, unknown}
+use Rattle.stripe.specs.Refusals.{Refusal, refusal1, refusal2, refusal3, unknown}
 use Rattle.job.specs.Fields.{field}
 use Rattle.job.specs.Header.{commandOf}
 use Rattle.job.specs.Refusals.{refusal4, refusal5, refusal16, refusal17, refusal18, refusal19, refusal20}

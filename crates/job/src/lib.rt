@@ -9,7 +9,7 @@ ghost use Rattle.stripe.specs.Codes.{namedBy};
 ghost use Rattle.stripe.specs.Refusals.{firstOf, encodeRefusal};
 ghost use Rattle.stripe.specs.Stripe.{verdicts};
 ghost use Rattle.job.specs.Fields.{fields};
-ghost use Rattle.job.specs.Header.{geometryOf, stripeOf};
+ghost use Rattle.job.specs.Header.{geometryOf};
 ghost use Rattle.job.specs.Refusals.{jobRefusal};
 ghost use Rattle.job.specs.Answer.{report, body, answered, AnswerCall};
 ghost use Rattle.job.specs.Parts.{FieldRead, headerRefusals, shapeRefusals, deviceRefusals, placeOf};
@@ -31,7 +31,7 @@ pub fn answer(job: &[u8], out: &mut [u8]) -> usize
     len
 }
 
-// ---- the refusals, in three stretches of their order
+// ---- the refusals, in three stretches of their order; 0 where none applies
 
 fn refusal(job: &[u8]) -> u8
     ensures { λ r. ⌜ r ≡ jobRefusal (now (job .entry)) ⌝ }
@@ -120,7 +120,7 @@ fn device_refusal(g: Geometry, command: u8, first: usize, second: usize) -> u8
     0
 }
 
-// Those of a rebuild.
+// 4 and 5 of a rebuild.
 fn loss_refusal(g: Geometry, first: usize, second: usize) -> u8
     requires { ⌜ g .n ≤ 255 ⌝ }
     ensures { λ r. ⌜ r ≡ firstOf (deviceRefusals g 2 (namedBy first) (namedBy second)) ⌝ }
@@ -162,6 +162,7 @@ fn place(g: Geometry, code: usize) -> usize
 
 // ---- the answer
 
+// The six bytes alone, or with a summary and B verdicts behind them, or with the stripe.
 fn answer_length(job: &[u8], refused: u8) -> usize
     requires { ⌜ refused ≡ jobRefusal (now job) ⌝ }
     ensures { λ r. ⌜ r ≡ length (answered (now (job .entry))) ⌝ }
@@ -175,6 +176,7 @@ fn answer_length(job: &[u8], refused: u8) -> usize
     job.len() - 8
 }
 
+// Fills an output of the answer's length.
 fn respond(job: &[u8], result: u8, out: &mut [u8])
     requires { ⌜ (result ≡ jobRefusal (now job)) × (length (now out) ≡ length (answered (now job))) ⌝ }
     ensures { λ _. ⌜ now (out .exit) ≡ answered (now (job .entry)) ⌝ }
@@ -187,6 +189,7 @@ fn respond(job: &[u8], result: u8, out: &mut [u8])
     run(job, &mut out[6..]);
 }
 
+// What follows the six bytes. The stripe's calls are not refused: the job's own tests passed.
 fn run(job: &[u8], out: &mut [u8])
     requires { ⌜ (jobRefusal (now job) ≡ 0) × (length (now out) ≡ length (body (now job))) ⌝ }
     ensures { λ _. ⌜ now (out .exit) ≡ body (now (job .entry)) ⌝ }
@@ -215,7 +218,7 @@ fn check(g: Geometry, stripe: &[u8], out: &mut [u8])
     check_in(g, stripe, &mut room[..b], out);
 }
 
-// The check with a room for its verdicts. It is not refused.
+// The check with a room for its verdicts.
 fn check_in(g: Geometry, stripe: &[u8], room: &mut [u16], out: &mut [u8])
     requires { ⌜ (encodeRefusal g (length (now stripe)) ≡ 0) × (length (now room) ≡ g .b) × (length (now out) ≡ 2 + 2 * g .b) ⌝ }
     ensures { λ _. ⌜ now (out .exit) ≡ report (verdicts g (now (stripe .entry))) ⌝ }

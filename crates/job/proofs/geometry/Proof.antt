@@ -3,7 +3,6 @@
 use mathlib.Core.Path.{ap₂}
 use Prim.Native.Nat.{ℕ}
 use borrow.Author.Needs.{needs}
-use Rattle.stripe.specs.declared.Geometry.{Geometry}
 use Rattle.job.proofs.geometry.Statement.{statement}
 use Rattle.job.proofs.geometry.Tie as tie
 

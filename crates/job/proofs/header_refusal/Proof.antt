@@ -10,17 +10,22 @@ use Rattle.job.specs.Refusals.{refusal16, refusal17, refusal18, refusal1
 use Rattle.job.proofs.header_refusal.Statement.{statement}
 use Rattle.job.proofs.header_refusal.Tie as tie
 
--- 16, 17 and 18 do not apply where the command is tested
+-- the refusals that do not apply where the version is tested, and where the command is
+marked : (c : tie.Else4) (rs : List Refusal)
+    → let job = c .before .before .before .before .before .before .before .before .args .job .now in firstOf (refusal16 job ∷ refusal17 job ∷ rs) ≡ firstOf rs
+marked c rs =
+    simp (
+      le-ltb _ _ (c .before .before .before .before .before .before .if1 .left),
+      eq-eqb _ _ (c .before .before .before .before .if2 .left),
+      eq-eqb _ _ (c .before .before .if3 .left),
+      eq-eqb _ _ (c .if4 .left),
+    )
+
 passed : (c : tie.Else5) (rs : List Refusal)
     → let job = c .before .before .before .before .before .before .before .before .before .before .args .job .now in firstOf (refusal16 job ∷ refusal17 job ∷ refusal18 job ∷ rs) ≡ firstOf rs
 passed c rs =
-    simp (
-      le-ltb _ _ (c .before .before .before .before .before .before .before .before .if1 .left),
-      eq-eqb _ _ (c .before .before .before .before .before .before .if2 .left),
-      eq-eqb _ _ (c .before .before .before .before .if3 .left),
-      eq-eqb _ _ (c .before .before .if4 .left),
-      eq-eqb _ _ (sym (c .before .field .ensures .value) ∙ c .if5 .left),
-    )
+    marked (c .before .before) (refusal18 (c .before .before .before .before .before .before .before .before .before .before .args .job .now) ∷ rs)
+    ∙ simp (eq-eqb _ _ (sym (c .before .field .ensures .value) ∙ c .if5 .left))
 
 returns : tie.Need-returns
 returns c = simp (lt-ltb _ _ (c .if1 .taken))
@@ -59,13 +64,8 @@ field-requires c κs = search needs
 
 returns-5 : tie.Need-returns-5
 returns-5 c =
-    simp (
-      le-ltb _ _ (c .before .before .before .before .before .before .before .before .if1 .left),
-      eq-eqb _ _ (c .before .before .before .before .before .before .if2 .left),
-      eq-eqb _ _ (c .before .before .before .before .if3 .left),
-      eq-eqb _ _ (c .before .before .if4 .left),
-      ne-eqb _ _ (λ e. c .if5 .taken (c .before .field .ensures .value ∙ e)),
-    )
+    let job = c .before .before .before .before .before .before .before .before .before .before .args .job .now in
+    sym (marked (c .before .before) (refusal18 job ∷ refusal19 (commandOf job) ∷ []) ∙ simp (ne-eqb _ _ (λ e. c .if5 .taken (c .before .field .ensures .value ∙ e))))
 
 shared-slice-read-command : tie.Need-shared-slice-read-command
 shared-slice-read-command c = search needs
