@@ -31,7 +31,7 @@ refusal17 job = record { number = 17; applies = not (stands mark 0 job) }
 abbrev pub refusal18 : List ℕ → Refusal
 refusal18 job = record { number = 18; applies = not (eqb (versionOf job) 1) }
 
--- an unknown command
+-- an unknown command: not 1, 2 or 3
 abbrev pub refusal19 : ℕ → Refusal
 refusal19 command = record { number = 19; applies = either (eqb command 0) (ltb 3 command) }
 
@@ -39,13 +39,14 @@ refusal19 command = record { number = 19; applies = either (eqb command 0) (ltb 
 abbrev pub refusal20 : Geometry → Refusal
 refusal20 g = record { number = 20; applies = ltb 61440 (size g) }
 
--- Encode and check want none twice.
+-- a device given or missing against the command's rule, a code with no meaning, or a data disk number of n or more: encode and check
+-- want none twice,
 abbrev pub isNone : Named → Bool
 isNone (Device d) = false
 isNone Nothing = true
 isNone Meaningless = false
 
--- Rebuild wants codes that name a loss, and devices that the stripe has.
+-- and rebuild wants codes that name a loss, of devices that the stripe has
 abbrev pub misnamed : Geometry → Naming → Bool
 misnamed g (Loss lost) = unknownLost g lost
 misnamed g Wrong = true
