@@ -1,5 +1,8 @@
 -- `stripe::changed` meets its contract: each step is the definition's own.
 -- Assumes nothing.
+use mathlib.Core.Path.{ap, ap₂, _∙_}
+use Prim.Native.Nat.{ℕ}
+use Rattle.gf256.specs.Field.{sum, product}
 use borrow.Author.Needs.{needs}
 use Rattle.stripe.specs.Column.{reedSolomon}
 use Rattle.stripe.proofs.changed.Statement.{statement}
@@ -34,7 +37,12 @@ sum-requires-3 c κs = search needs
 
 returns : tie.Need-returns
 unfolding reedSolomon
-returns c = record { first = cc; second = cc }
+returns c =
+    let change = c .before .before .before .before .before .before .before .sum .ensures ∙ ap (λ (x : ℕ). sum x (c .before .before .before .before .before .before .before .before .before .before .args .new)) (c .before .before .before .before .before .before .before .before .byte .ensures) in
+    record {
+      first = c .before .before .before .before .before .sum2 .ensures ∙ ap₂ sum (c .before .before .before .before .before .before .byte2 .ensures) change;
+      second = c .sum3 .ensures ∙ ap₂ sum (c .before .before .before .byte3 .ensures) (c .before .product .ensures ∙ ap₂ product (c .before .before .power .ensures) change);
+    }
 
 pub changed-spec : {M : Type 1} → statement M
 changed-spec =

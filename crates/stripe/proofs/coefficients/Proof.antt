@@ -1,5 +1,8 @@
 -- `stripe::coefficients` meets its contract: each step is the definition's own.
 -- Assumes nothing.
+use mathlib.Core.Path.{ap, ap₂, _∙_}
+use Prim.Native.Nat.{ℕ}
+use Rattle.gf256.specs.Field.{sum, product, inverse}
 use borrow.Author.Needs.{needs}
 use Rattle.stripe.proofs.coefficients.Statement.{statement}
 use Rattle.stripe.proofs.coefficients.Tie as tie
@@ -29,7 +32,11 @@ product-requires-3 : tie.Need-product-requires-3
 product-requires-3 c κs = search needs
 
 returns : tie.Need-returns
-returns c = (cc, cc)
+returns c =
+    let over-x = c .before .before .before .before .before .before .inverse .ensures ∙ ap inverse (c .before .before .before .before .before .before .before .power .ensures) in
+    let ratio = c .before .before .before .before .product .ensures ∙ ap₂ product (c .before .before .before .before .before .power2 .ensures) over-x in
+    let scale = c .before .before .inverse2 .ensures ∙ ap inverse (c .before .before .before .sum .ensures ∙ ap (λ (r : ℕ). sum r 1) ratio) in
+    (c .before .product2 .ensures ∙ ap₂ product ratio scale, c .product3 .ensures ∙ ap₂ product over-x scale)
 
 pub coefficients-spec : {M : Type 1} → statement M
 coefficients-spec =

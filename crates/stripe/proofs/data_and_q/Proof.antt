@@ -1,13 +1,13 @@
 -- `stripe::data_and_q` meets its contract: Q is the sum of the other disks and of x.
 -- Assumes nothing.
-use mathlib.Core.Path.{_≡_, ap, _∙_}
+use mathlib.Core.Path.{_≡_, ap, ap₂, _∙_}
 use Prim.Native.Nat.{ℕ}
 use borrow.Author.Needs.{needs}
 use Rattle.gf256.specs.Field.{sum, product, power}
 use Rattle.gf256.proofs.Laws.{product-right}
 use Rattle.stripe.proofs.Put.{put-twice}
 use Rattle.stripe.proofs.Weighted.{weighted-more}
-use Rattle.stripe.specs.Column.{put, parityQ, fromP, reedSolomon}
+use Rattle.stripe.specs.Column.{put, parityP, parityQ, fromP, reedSolomon}
 use Rattle.stripe.specs.Stripe.{column}
 use Rattle.stripe.proofs.data_and_q.Statement.{statement}
 use Rattle.stripe.proofs.data_and_q.Tie as tie
@@ -37,9 +37,12 @@ returns c =
     let n = start .args .g .n in
     let x = start .args .x in
     let e = column (start .args .g) (start .args .stripe .now) (start .args .i) in
-    let rest = put-twice x 0 0 e in
-    let d : c .before .before .before .sum .result .0 ≡ fromP n x e = cc in
-    let added : c .before .product .result .0 ≡ product (power 2 x) (c .before .before .before .sum .result .0) = cc in
+    let d : c .before .before .before .sum .result .0 ≡ fromP n x e =
+    c .before .before .before .sum .ensures ∙ ap₂ sum (c .before .before .before .before .byte .ensures) (c .before .before .before .before .before .parities .ensures .first ∙ ap (parityP n) (put-twice x 0 0 e))
+    in
+    let added : c .before .product .result .0 ≡ product (power 2 x) (c .before .before .before .sum .result .0) =
+    c .before .product .ensures ∙ ap (λ (f : ℕ). product f (c .before .before .before .sum .result .0)) (c .before .before .power .ensures)
+    in
     record {
       first = d;
       second =

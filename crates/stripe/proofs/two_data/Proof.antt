@@ -1,5 +1,7 @@
 -- `stripe::two_data` meets its contract: each step is the definition's own.
 -- Assumes nothing.
+use mathlib.Core.Path.{ap₂, _∙_}
+use Rattle.gf256.specs.Field.{sum, product}
 use borrow.Author.Needs.{needs}
 use Rattle.stripe.specs.Column.{reedSolomon}
 use Rattle.stripe.proofs.two_data.Statement.{statement}
@@ -40,7 +42,15 @@ sum-requires-4 c κs = search needs
 
 returns : tie.Need-returns
 unfolding reedSolomon
-returns c = record { first = cc; second = cc }
+returns c =
+    let p = c .before .before .before .before .before .before .before .before .sum .ensures ∙ ap₂ sum (c .before .before .before .before .before .before .before .before .before .byte .ensures) (c .before .before .before .before .before .before .before .before .before .before .parities .ensures .first) in
+    let q = c .before .before .before .before .before .sum2 .ensures ∙ ap₂ sum (c .before .before .before .before .before .before .byte2 .ensures) (c .before .before .before .before .before .before .before .before .before .before .parities .ensures .second) in
+    let d =
+    c .before .sum3 .ensures
+    ∙ ap₂ sum (c .before .before .before .product .ensures ∙ ap₂ product (c .before .before .before .before .coefficients .ensures .0) p)
+    (c .before .before .product2 .ensures ∙ ap₂ product (c .before .before .before .before .coefficients .ensures .1) q)
+    in
+    record { first = d; second = c .sum4 .ensures ∙ ap₂ sum p d }
 
 pub two-data-spec : {M : Type 1} → statement M
 two-data-spec =
