@@ -17,6 +17,7 @@ fn main() {
     rebuilding();
     checking();
     judging();
+    answering();
 }
 
 fn field() {
@@ -61,6 +62,11 @@ fn encoding() {
 
 fn rebuilding() {
     row(
+        b"write 80 to disk 1 of 01 02 04, P 07, Q 15",
+        b"P 85, Q 0c",
+        written(),
+    );
+    row(
         b"lose disks 0 and 2 of 01 02 04, P 07, Q 15",
         b"01 and 04",
         two_lost(),
@@ -96,6 +102,16 @@ fn judging() {
     );
 }
 
+fn answering() {
+    row(b"job: 13 disks of 4,096", b"done", job_result(13, 4096));
+    row(
+        b"job: 14 disks of 4,096",
+        b"refusal 20",
+        job_result(14, 4096),
+    );
+    row(b"job: 1 disk of 4,097", b"refusal 2", job_result(1, 4097));
+}
+
 // ---- the cases
 
 // P and Q of a stripe with blocks of one byte, or the refusal.
@@ -114,6 +130,38 @@ fn last_disk() -> [u8; 17] {
     let mut s = [0u8; 257];
     s[254] = 1;
     encoded(&mut s)
+}
+
+fn written() -> [u8; 17] {
+    let mut s = [0x01, 0x02, 0x04, 0x07, 0x15];
+    let result = stripe::write(Geometry { n: 3, b: 1 }, &mut s, 1, 0, b"\x80");
+    if result != 0 {
+        return refusal(result);
+    }
+    parities(s[3], s[4])
+}
+
+// An encode of n disks of b bytes, with the stripe of 13 disks of 4,096 behind the header.
+fn job_result(n: u8, b: u16) -> [u8; 17] {
+    let mut job = [0u8; 61454];
+    job[0] = b'S';
+    job[1] = b'R';
+    job[2] = b'J';
+    job[4] = 1;
+    job[5] = 1;
+    job[7] = n;
+    job[8] = (b / 256 % 256) as u8;
+    job[9] = (b % 256) as u8;
+    job[10] = 0xff;
+    job[11] = 0xff;
+    job[12] = 0xff;
+    job[13] = 0xff;
+    let mut out = [0u8; 61446];
+    job::answer(&job, &mut out);
+    if out[5] == 0 {
+        return *b"done             ";
+    }
+    refusal(out[5])
 }
 
 fn two_lost() -> [u8; 17] {
@@ -165,8 +213,12 @@ fn parities(p: u8, q: u8) -> [u8; 17] {
     with_byte(with_byte(*b"P .., Q ..       ", 2, p), 8, q)
 }
 
-fn refusal(n: u8) -> [u8; 17] {
-    with_digit(*b"refusal .        ", 8, n as usize)
+fn refusal(number: u8) -> [u8; 17] {
+    let n = number as usize;
+    if n < 10 {
+        return with_digit(*b"refusal .        ", 8, n);
+    }
+    with_digit(with_digit(*b"refusal ..       ", 8, n / 10), 9, n)
 }
 
 fn verdict_text(verdict: u16) -> [u8; 17] {
