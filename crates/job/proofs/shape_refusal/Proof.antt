@@ -1,14 +1,15 @@
 -- `job::shape_refusal` meets its contract: each `return` rewrites by the tests that led there.
 -- Assumes nothing.
 use mathlib.Core.Path.{_≡_, sym, _∙_}
-use mathlib.Core.List.{List, [], _∷_}
+use mathlib.Core.List.{List, _∷_}
 use Prim.Native.Nat.{_+_}
 use native.Mathlib.Nat.{mul-le-mul}
 use native.Mathlib.Omega.{arith}
 use borrow.Author.Needs.{needs}
 use borrow.Author.Tests.{eq-eqb, ne-eqb, lt-ltb, le-ltb}
-use Rattle.stripe.specs.Refusals.{Refusal, firstOf, refusal1, refusal2, refusal3}
-use Rattle.job.specs.Refusals.{refusal20}
+use lib.ListN.{drop}
+use Rattle.stripe.specs.Refusals.{Refusal, firstOf, refusal1, refusal2}
+use Rattle.job.specs.Parts.{shapeRefusals}
 use Rattle.job.proofs.shape_refusal.Statement.{statement}
 use Rattle.job.proofs.shape_refusal.Tie as tie
 
@@ -56,17 +57,17 @@ mul-size c =
 returns-5 : tie.Need-returns-5
 returns-5 c =
     let a = c .before .before .before .before .before .before .before .before .before .before .before .args in
-    sym (passed (c .before .before .before) (refusal20 (a .g) ∷ refusal3 (a .g) (a .len) ∷ []) ∙ simp (lt-ltb _ _ (c .if5 .taken)))
+    sym (passed (c .before .before .before) (drop 2 (shapeRefusals (a .g) (a .len))) ∙ simp (lt-ltb _ _ (c .if5 .taken)))
 
 returns-6 : tie.Need-returns-6
 returns-6 c =
     let a = c .before .before .before .before .before .before .before .before .before .before .before .before .args in
-    sym (passed (c .before .before .before .before) (refusal20 (a .g) ∷ refusal3 (a .g) (a .len) ∷ []) ∙ simp (le-ltb _ _ (c .before .if5 .left), ne-eqb _ _ (c .if6 .taken)))
+    sym (passed (c .before .before .before .before) (drop 2 (shapeRefusals (a .g) (a .len))) ∙ simp (le-ltb _ _ (c .before .if5 .left), ne-eqb _ _ (c .if6 .taken)))
 
 returns-7 : tie.Need-returns-7
 returns-7 c =
     let a = c .before .before .before .before .before .before .before .before .before .before .before .before .args in
-    sym (passed (c .before .before .before .before) (refusal20 (a .g) ∷ refusal3 (a .g) (a .len) ∷ []) ∙ simp (le-ltb _ _ (c .before .if5 .left), eq-eqb _ _ (c .if6 .left)))
+    sym (passed (c .before .before .before .before) (drop 2 (shapeRefusals (a .g) (a .len))) ∙ simp (le-ltb _ _ (c .before .if5 .left), eq-eqb _ _ (c .if6 .left)))
 
 pub shape-refusal-spec : {M : Type 1} → statement M
 shape-refusal-spec =
