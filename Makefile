@@ -1,4 +1,6 @@
-.PHONY: test lib job install uninstall
+# `make` alone answers the first job.
+.DEFAULT_GOAL = example
+.PHONY: example test toolchain lib job install uninstall
 # One rt at a time: they share target/.
 .NOTPARALLEL:
 
@@ -6,13 +8,20 @@
 test:
 	@tests/gate
 
+toolchain:
+	@command -v rt >/dev/null || { echo 'rt is missing: it is not on PATH' >&2; exit 2; }
+
 # The library for C, target/staticlib/libshelf.a; include/shelf.h is its header.
-lib:
+lib: toolchain
 	rt staticlib shelf
 
 # The job program, target/bin/shelf_job.
-job:
+job: toolchain
 	rt check shelf_job
+
+# A first job: two lost data disks come back from P and Q.
+example: job
+	@printf 'SRJ\0\1\2\0\2\0\1\0\0\0\1\0\0\201\34' | target/bin/shelf_job | od -An -tx1
 
 # Where installed files go. DESTDIR, if given, stands before PREFIX for a staged copy, and no file mentions it.
 VERSION = 0.1.0

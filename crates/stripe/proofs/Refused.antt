@@ -14,11 +14,12 @@ use Rattle.stripe.specs.declared.Geometry.{Geometry}
 use Rattle.stripe.specs.declared.Device.{Device}
 use Rattle.stripe.specs.declared.Device.the-variants.{Data, P, Q}
 use Rattle.stripe.specs.declared.Lost.{Lost}
-use Rattle.stripe.specs.declared.Checked.the-variants.{Refused}
+use Rattle.stripe.specs.declared.Checked.{Checked}
+use Rattle.stripe.specs.declared.Checked.the-variants.{Refused, Summary}
 use Rattle.stripe.specs.Choice.{choose, either}
-use Rattle.stripe.specs.Stripe.{size, written, rebuilt}
-use Rattle.stripe.specs.Refusals.{Refusal, unknown, firstOf, refusal1, refusal2, refusal3, encodeRefusal, writeRefusal, rebuildRefusal}
-use Rattle.stripe.specs.Calls.{unlessRefused, answered, afterRebuild, RebuildCall, afterWrite, WriteCall}
+use Rattle.stripe.specs.Stripe.{size, written, rebuilt, verdicts, summary}
+use Rattle.stripe.specs.Refusals.{Refusal, unknown, firstOf, refusal1, refusal2, refusal3, encodeRefusal, writeRefusal, rebuildRefusal, checkRefusal}
+use Rattle.stripe.specs.Calls.{unlessRefused, numberOf, answered, afterRebuild, RebuildCall, afterWrite, WriteCall, afterCheck, CheckCall}
 use Rattle.stripe.specs.Parts.{Whole, Known}
 
 pub either-false : (a b : Bool) → either a b ≡ false → (a ≡ false) × (b ≡ false)
@@ -83,9 +84,43 @@ known-of g P e = tt
 known-of g Q e = tt
 
 -- a check's answer
-pub answered-refused : (k v : ℕ) → k ≢ 0 → answered k v ≡ Refused k
+answered-refused : (k v : ℕ) → k ≢ 0 → answered k v ≡ Refused k
 answered-refused zero v n = absurd (n refl)
 answered-refused (suc k) v n = refl
+
+answered-number : (k v : ℕ) → numberOf (answered k v) ≡ k
+answered-number zero v = refl
+answered-number (suc k) v = refl
+
+-- a call of check, from its answer and the buffer it leaves
+pub check-called : (g : Geometry) (s before : List ℕ) (r : Checked) (after : List ℕ)
+    → r ≡ answered (checkRefusal g (length s) (length before)) (summary (verdicts g s))
+    → after ≡ afterCheck g s before
+    → CheckCall g s before r after
+check-called g s before r after e h =
+    record {
+      number = ap numberOf e ∙ answered-number (checkRefusal g (length s) (length before)) (summary (verdicts g s));
+      result = e;
+      room = h;
+    }
+
+pub check-refused : (g : Geometry) (s before : List ℕ) (k : ℕ) → k ≢ 0 → k ≡ checkRefusal g (length s) (length before)
+    → CheckCall g s before (Refused k) before
+unfolding afterCheck
+check-refused g s before k n e =
+    check-called g s before (Refused k) before
+    (sym (answered-refused k (summary (verdicts g s)) n) ∙ ap (λ (k : ℕ). answered k (summary (verdicts g s))) e)
+    (sym (left-alone (checkRefusal g (length s) (length before)) (verdicts g s) before (λ z. n (e ∙ z))))
+
+pub check-done : (g : Geometry) (s before : List ℕ) (v : ℕ) (after : List ℕ) → checkRefusal g (length s) (length before) ≡ 0
+    → v ≡ summary (verdicts g s)
+    → after ≡ verdicts g s
+    → CheckCall g s before (Summary v) after
+unfolding afterCheck
+check-done g s before v after none e h =
+    check-called g s before (Summary v) after
+    (ap Summary e ∙ sym (ap (λ (k : ℕ). answered k (summary (verdicts g s))) none))
+    (h ∙ sym (left-done (checkRefusal g (length s) (length before)) (verdicts g s) before none))
 
 -- a call of rebuild, refused and done
 pub rebuild-refused : (g : Geometry) (lost : Lost) (s : List ℕ) (k : ℕ) → k ≢ 0 → k ≡ rebuildRefusal g (length s) lost → RebuildCall g lost s k s

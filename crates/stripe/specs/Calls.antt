@@ -30,7 +30,11 @@ afterRebuild g lost s = unlessRefused (rebuildRefusal g (length s) lost) (rebuil
 unfoldable pub afterCheck : Geometry → List ℕ → List ℕ → List ℕ
 afterCheck g s room = unlessRefused (checkRefusal g (length s) (length room)) (verdicts g s) room
 
--- A check's answer: a refusal's number, or the summary.
+-- A check's answer: a refusal's number, or the summary. Its number as the other calls give theirs: 0 is done, any other refuses.
+abbrev pub numberOf : Checked → ℕ
+numberOf (Refused k) = k
+numberOf (Summary v) = 0
+
 abbrev pub answered : ℕ → ℕ → Checked
 answered zero v = Summary v
 answered (suc k) v = Refused (suc k)
@@ -49,5 +53,6 @@ pub record RebuildCall (g : Geometry) (lost : Lost) (before : List ℕ) (r : ℕ
   pub stripe : after ≡ afterRebuild g lost before
 
 pub record CheckCall (g : Geometry) (s before : List ℕ) (r : Checked) (after : List ℕ) : Type 0 where
+  pub number : numberOf r ≡ checkRefusal g (length s) (length before)
   pub result : r ≡ answered (checkRefusal g (length s) (length before)) (summary (verdicts g s))
   pub room : after ≡ afterCheck g s before
