@@ -7,7 +7,8 @@
  * Parities. In each column P = D0 + D1 + ... and Q = the sum of 02^k * Dk, in the field of bytes modulo
  * x^8 + x^4 + x^3 + x^2 + 1, where a sum is exclusive or. A stripe that meets both equations is encoded.
  *
- * Numbers. All are 64 bits wide and are taken whole: none is cut to fit, and any value may be passed.
+ * Numbers. All are 64 bits wide, lengths too (only 64-bit targets are supported), and are taken whole: none is cut to
+ * fit, and any value may be passed.
  *
  * Results. 0 is done. Any other result is the number of a refusal, listed with each call in the order in which the
  * tests are made: the first that applies is returned. A refused call changes nothing. Whether a call is refused depends
@@ -15,7 +16,7 @@
  *
  * Buffers. A length is in bytes and is that of the buffer behind the pointer. A pointer may be null only where its
  * length is 0. Buffers need no alignment. No call reads or writes outside of them or keeps a pointer. Calls allocate
- * nothing, hold no state and may run at the same time on different stripes.
+ * nothing, use less than 8 KiB of stack, hold no state and may run at the same time on different stripes.
  */
 #ifndef SHELF_H
 #define SHELF_H

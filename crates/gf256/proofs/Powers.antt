@@ -114,11 +114,14 @@ first-is test (suc k) e (suc l) h misses hit =
     step : (j : ℕ) → suc e + j ≡ e + suc j
     step j = omega arith
 
+pub logarithm-zero : logarithm 0 ≡ 255
+unfolding logarithm
+logarithm-zero =
+    first-is (λ e. eqb (power 2 e) 0) 255 0 255 (le-refl 255) (λ j p. ne-eqb (power 2 (0 + j)) 0 (power-of-two-nonzero (0 + j))) (λ p. absurd (lt-irrefl 255 p))
+
 pub logarithm-entry : (x : ℕ) → x < 256 → logarithm x ≡ getD logarithms x 0
 unfolding logarithm
-logarithm-entry zero h =
-    first-is (λ e. eqb (power 2 e) 0) 255 0 255 (le-refl 255) (λ j p. ne-eqb (power 2 (0 + j)) 0 (power-of-two-nonzero (0 + j))) (λ p. absurd (lt-irrefl 255 p))
-    ∙ sym logarithms-first
+logarithm-entry zero h = logarithm-zero ∙ sym logarithms-first
 logarithm-entry (suc x) h =
     first-is (λ e. eqb (power 2 e) (suc x)) 255 0 l (le-of-lt below) (λ j p. ne-eqb (power 2 (0 + j)) (suc x) (other j p)) (λ p. eq-eqb (power 2 (0 + l)) (suc x) (ap (power 2) (zero-add l) ∙ found))
     ∙ zero-add l
@@ -136,7 +139,7 @@ logarithm-entry (suc x) h =
     other j p e = ne-of-lt p (power-of-two-injective j l (lt-trans p below) below (sym (ap (power 2) (zero-add j)) ∙ e ∙ sym found))
 
 pub logarithm-le : (x : ℕ) → x < 256 → logarithm x ≤ 255
-logarithm-le zero h = le-of-eq (logarithm-entry 0 h ∙ logarithms-first)
+logarithm-le zero h = le-of-eq logarithm-zero
 logarithm-le (suc x) h = rw (logarithm-entry (suc x) h) (le-of-lt (Tables.logarithm-below x (le-of-suc-le-suc h)))
 
 pub logarithm-power-of-two : (e : ℕ) → e < 255 → logarithm (power 2 e) ≡ e

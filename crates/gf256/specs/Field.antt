@@ -1,5 +1,6 @@
 -- The field GF(2^8) of the paper's section 1. An element is a byte: a polynomial over two elements whose coefficient of x^i is
--- the bit of weight 2^i. Every definition here reads the low eight bits of its arguments alone.
+-- the bit of weight 2^i. `double`, `product`, `power` and `inverse` read the low
+-- eight bits of their elements alone.
 use Prim.Native.Nat.{ℕ, zero, suc, _+_, _*_, _/_, _%_, _^_}
 use mathlib.Core.Bool.{Bool, true, false}
 use lib.Bits.{bitXor, differ}

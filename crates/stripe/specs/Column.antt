@@ -29,11 +29,11 @@ total zero f = 0
 total (suc k) f = sum (total k f) (f k)
 
 -- two bytes of a column, for the first and the second of two devices
-pub record Bytes : Type 0 where
+pub record TwoBytes : Type 0 where
   pub first : ℕ
   pub second : ℕ
 
-abbrev pub exchanged : Bytes → Bytes
+abbrev pub exchanged : TwoBytes → TwoBytes
 exchanged p = record { first = p .second; second = p .first }
 
 -- What two parities need of a code: `act k`, how disk k's symbol enters Q; `undo k`, which takes that back; and `split x y`, which
@@ -117,17 +117,17 @@ module _ (code : Code) where
   newByte n Q c = parityQ n c
 
   -- The new bytes of two lost devices. Where a parity is one of them, it is recomputed from the data with the new data byte.
-  abbrev pub dataAndP : ℕ → ℕ → Column → Bytes
+  abbrev pub dataAndP : ℕ → ℕ → Column → TwoBytes
   dataAndP n x c = record { first = fromQ n x c; second = parityP n (put x (fromQ n x c) c) }
 
-  abbrev pub dataAndQ : ℕ → ℕ → Column → Bytes
+  abbrev pub dataAndQ : ℕ → ℕ → Column → TwoBytes
   dataAndQ n x c = record { first = fromP n x c; second = parityQ n (put x (fromP n x c) c) }
 
   -- equations 19 and 20
-  abbrev pub twoData : ℕ → ℕ → ℕ → Column → Bytes
+  abbrev pub twoData : ℕ → ℕ → ℕ → Column → TwoBytes
   twoData n x y c = record { first = fromBoth n x y c; second = sum (restP n x y c) (fromBoth n x y c) }
 
-  abbrev pub newBytes : ℕ → Device → Device → Column → Bytes
+  abbrev pub newBytes : ℕ → Device → Device → Column → TwoBytes
   newBytes n (Data x) (Data y) c = twoData n x y c
   newBytes n (Data x) P c = dataAndP n x c
   newBytes n (Data x) Q c = dataAndQ n x c

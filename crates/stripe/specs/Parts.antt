@@ -8,7 +8,7 @@ use Rattle.stripe.specs.declared.Geometry.{Geometry}
 use Rattle.stripe.specs.declared.Device.{Device}
 use Rattle.stripe.specs.declared.Device.the-variants.{Data, P, Q}
 use Rattle.stripe.specs.Choice.{choose}
-use Rattle.stripe.specs.Column.{Column, Bytes, parityP, parityQ, adjustColumn, reedSolomon}
+use Rattle.stripe.specs.Column.{Column, TwoBytes, parityP, parityQ, adjustColumn, reedSolomon}
 use Rattle.stripe.specs.Stripe.{size, covers, lift}
 
 -- a stripe that meets what refusals 1 to 3 ask
@@ -37,7 +37,7 @@ pub record Parities (n : ℕ) (c : Column) (p q : ℕ) : Type 0 where
   pub second : q ≡ parityQ reedSolomon n c
 
 -- p and q are the two bytes
-pub record Fills (bytes : Bytes) (p q : ℕ) : Type 0 where
+pub record Fills (bytes : TwoBytes) (p q : ℕ) : Type 0 where
   pub first : p ≡ bytes .first
   pub second : q ≡ bytes .second
 

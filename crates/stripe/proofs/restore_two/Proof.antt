@@ -8,7 +8,7 @@ use native.Mathlib.Omega.{arith}
 use lib.ListN.{length, set, length-set}
 use Rattle.stripe.proofs.Inside.{known-role}
 use Rattle.stripe.proofs.Sweep.{Swept, sweep-none, sweep-pair, sweep-all}
-use Rattle.stripe.specs.Column.{Column, Bytes, put, roleOf, reedSolomon, newBytes, rebuildColumn}
+use Rattle.stripe.specs.Column.{Column, TwoBytes, put, roleOf, reedSolomon, newBytes, rebuildColumn}
 use Rattle.stripe.specs.Stripe.{start, column}
 use Rattle.stripe.specs.declared.Device.{Device}
 use Rattle.stripe.specs.declared.Geometry.{Geometry}
