@@ -96,6 +96,12 @@ module _ (n : ℕ) (few : n ≤ 255) (c : Column) where
       abbrev δ : ℕ
       δ = sum (c z) v
 
+      abbrev P* : ℕ
+      P* = syndromeP n (put z v c)
+
+      abbrev Q* : ℕ
+      Q* = syndromeQ reedSolomon n (put z v c)
+
       -- stored plus recomputed, for either parity
       differs : (t : ℕ → ℕ → ℕ) → Additive t → (p : ℕ) → p ≡ weighted t n c → sum p (weighted t n (put z v c)) ≡ t z δ
       differs t add p e =
@@ -106,40 +112,45 @@ module _ (n : ℕ) (few : n ≤ 255) (c : Column) where
           ∙ sym (add z (c z) v)
 
       -- P* = D_z + X_z
-      pub equation24 : syndromeP n (put z v c) ≡ δ
+      pub equation24 : P* ≡ δ
       equation24 =
           ap (λ (p : ℕ). sum p (parityP n (put z v c))) (put-other z v c n (omega arith)) ∙ differs (λ k x. x) (λ k x y. refl) (c n) (h .first)
 
-      -- Q* = g^z·(D_z + X_z)
-      pub equation25 : syndromeQ reedSolomon n (put z v c) ≡ product (power 2 z) δ
+      -- Q* = g^z·P*
+      pub equation25 : Q* ≡ product (power 2 z) P*
       unfolding reedSolomon
       equation25 =
           ap (λ (q : ℕ). sum q (parityQ reedSolomon n (put z v c))) (put-other z v c (n + 1) (omega arith))
           ∙ differs (λ k x. product (power 2 k) x) (λ k. product-right (power 2 k)) (c (n + 1)) (h .second)
+          ∙ ap (product (power 2 z)) (sym equation24)
 
       module _ (changed : v ≢ c z) where
-        δ-byte : δ < 256
-        δ-byte = xor-lt 8 (c z) v (symbols z) byte
+        p-byte : P* < 256
+        p-byte = rw equation24 (xor-lt 8 (c z) v (symbols z) byte)
 
-        δ-nonzero : δ ≢ 0
-        δ-nonzero e = changed (sym (sum-only-zero (c z) v e))
+        p-nonzero : P* ≢ 0
+        p-nonzero e = changed (sym (sum-only-zero (c z) v (sym equation24 ∙ e)))
+
+        q-nonzero : Q* ≢ 0
+        q-nonzero e =
+            product-nonzero (power 2 z) P* (power-lt 2 z) p-byte (power-of-two-nonzero z) p-nonzero (sym equation25 ∙ e)
 
         -- Q*/P* = g^z
-        pub equation26 : product (product (power 2 z) δ) (inverse δ) ≡ power 2 z
+        pub equation26 : product Q* (inverse P*) ≡ power 2 z
         equation26 =
-            product-assoc (power 2 z) δ (inverse δ)
-            ∙ ap (product (power 2 z)) (product-inverse δ δ-byte δ-nonzero)
+            ap (λ (q : ℕ). product q (inverse P*)) equation25
+            ∙ product-assoc (power 2 z) P* (inverse P*)
+            ∙ ap (product (power 2 z)) (product-inverse P* p-byte p-nonzero)
             ∙ product-comm (power 2 z) 1
             ∙ product-one (power 2 z) (power-lt 2 z)
 
         -- z = log(Q*/P*)
-        pub equation27 : logarithm (product (product (power 2 z) δ) (inverse δ)) ≡ z
+        pub equation27 : logarithm (product Q* (inverse P*)) ≡ z
         equation27 = ap logarithm equation26 ∙ logarithm-power-of-two z (omega arith)
 
         pub verdict-data : verdict n (put z v c) ≡ 16 + z
         verdict-data =
-            ap₂ (verdictOf n) equation24 equation25
-            ∙ row-both n δ (product (power 2 z) δ) δ-nonzero (product-nonzero (power 2 z) δ (power-lt 2 z) δ-byte (power-of-two-nonzero z) δ-nonzero)
+            row-both n P* Q* p-nonzero q-nonzero
             ∙ ap (located n) equation27
             ∙ ap (λ (b : Bool). choose b (16 + z) 3) (lt-ltb z n hz)
 
