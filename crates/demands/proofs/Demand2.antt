@@ -4,19 +4,22 @@
 use mathlib.Core.Path.{_≡_, refl, sym, ap, ap₂, subst, _∙_}
 use mathlib.Core.Logic.{_≢_}
 use mathlib.Core.Bool.{Bool, true, false}
-use mathlib.Core.List.{List}
+use mathlib.Core.List.{List, [], _∷_}
 use Prim.Native.Nat.{ℕ, _+_, _-_, _≤_, _<_}
 use native.Mathlib.Omega.{arith}
+use native.Mathlib.Decide.{ℕ-discrete}
+use borrow.Author.Tests.{eq-eqb, ne-eqb}
+use lib.Dec.{eqb}
 use lib.ListN.{length, getD}
 use Rattle.stripe.specs.declared.Geometry.{Geometry}
 use Rattle.stripe.specs.declared.Device.{Device}
 use Rattle.stripe.specs.declared.Device.the-variants.{P, Q}
 use Rattle.stripe.specs.declared.Lost.{Lost}
 use Rattle.stripe.specs.declared.Lost.the-variants.{One, Two}
-use Rattle.stripe.specs.Choice.{choose}
-use Rattle.stripe.specs.Column.{Column, Encoded, encodeColumn, writeColumn, rebuildColumn, reedSolomon}
+use Rattle.stripe.specs.Choice.{choose, either}
+use Rattle.stripe.specs.Column.{Column, roleOf, Encoded, encodeColumn, writeColumn, rebuildColumn, reedSolomon}
 use Rattle.stripe.specs.Stripe.{size, column, covers, lift, encoded, written, rebuilt}
-use Rattle.stripe.specs.Refusals.{encodeRefusal, writeRefusal, rebuildRefusal}
+use Rattle.stripe.specs.Refusals.{firstOf, refusal1, refusal2, refusal3, unknown, encodeRefusal, writeRefusal, rebuildRefusal}
 use Rattle.stripe.specs.Calls.{afterEncode, afterWrite, afterRebuild}
 use Rattle.stripe.specs.Parts.{Whole}
 use Rattle.stripe.proofs.Places.{length-lift, lift-at, by-columns}
@@ -28,7 +31,7 @@ use Rattle.demands.proofs.Columns.{encode-data, encode-encoded, encode-
 use Rattle.demands.proofs.Rebuild.{rebuild-spares, rebuild-meets, rebuild-only, rebuild-blind, rebuild-order, meets-same}
 use Rattle.demands.proofs.ColumnSeries.{set, moved-same}
 use Rattle.demands.proofs.Bytes.{columns-symbols}
-use Rattle.demands.proofs.Accepted.{encode-done, write-accepted, write-done, rebuild-accepted, rebuild-done}
+use Rattle.demands.proofs.Accepted.{encode-done, write-accepted, write-done, rebuild-accepted, rebuild-done, rebuild-refused}
 
 -- ---- encode
 module _ (g : Geometry) (s : List ℕ) (fits : encodeRefusal g (length s) ≡ 0) where
@@ -121,18 +124,47 @@ module _ (g : Geometry) (l : Lost) (s : List ℕ) (bytes : Bytes s) (accepted : 
       few : g .n ≤ 255
       few = fit .disks
 
--- the order of the two names doesn't matter
-pub names-in-any-order : (g : Geometry) (d e : Device) (s : List ℕ) → Bytes s → rebuildRefusal g (length s) (Two d e) ≡ 0 → rebuildRefusal g (length s) (Two e d) ≡ 0
-    → afterRebuild g (Two e d) s ≡ afterRebuild g (Two d e) s
-names-in-any-order g d e s bytes accepted also =
-    by-columns g (fit .some) (afterRebuild g (Two e d) s) (afterRebuild g (Two d e) s) (rebuild-length g (Two e d) s bytes also ∙ fit .whole) (rebuild-length g (Two d e) s bytes accepted ∙ fit .whole)
-    (λ i r hi hr.
-    after-rebuild g (Two e d) s bytes also i r hi hr
-    ∙ rebuild-order reedSolomon 8 255 reed-solomon (g .n) (fit .disks) d e (column g s i) (columns-symbols g s bytes i) (sound g (Two d e) s bytes accepted) r hr
-    ∙ sym (after-rebuild g (Two d e) s bytes accepted i r hi hr))
+-- ---- the order of the two names doesn't matter, be the call accepted or refused
+either-comm : (a b : Bool) → either a b ≡ either b a
+either-comm true true = refl
+either-comm true false = refl
+either-comm false true = refl
+either-comm false false = refl
+
+eqb-comm : (a b : ℕ) → eqb a b ≡ eqb b a
+eqb-comm a b = go (ℕ-discrete a b)
   where
-    fit : Whole g s
-    fit = fitting g (Two d e) s bytes accepted
+    go : Dec (a ≡ b) → eqb a b ≡ eqb b a
+    go (yes e) = eq-eqb a b e ∙ sym (eq-eqb b a (sym e))
+    go (no n) = ne-eqb a b n ∙ sym (ne-eqb b a (λ e. n (sym e)))
+
+pub refusal-in-any-order : (g : Geometry) (len : ℕ) (d e : Device) → rebuildRefusal g len (Two d e) ≡ rebuildRefusal g len (Two e d)
+refusal-in-any-order g len d e =
+    ap₂
+    (λ (u t : Bool). firstOf (refusal1 g ∷ refusal2 g ∷ refusal3 g len ∷ record { number = 4; applies = u } ∷ record { number = 5; applies = t } ∷ []))
+    (either-comm (unknown g d) (unknown g e))
+    (eqb-comm (roleOf (g .n) d) (roleOf (g .n) e))
+
+pub names-in-any-order : (g : Geometry) (d e : Device) (s : List ℕ) → Bytes s → afterRebuild g (Two e d) s ≡ afterRebuild g (Two d e) s
+names-in-any-order g d e s bytes = go (ℕ-discrete (rebuildRefusal g (length s) (Two d e)) 0)
+  where
+    order : rebuildRefusal g (length s) (Two e d) ≡ rebuildRefusal g (length s) (Two d e)
+    order = refusal-in-any-order g (length s) e d
+
+    go : Dec (rebuildRefusal g (length s) (Two d e) ≡ 0) → afterRebuild g (Two e d) s ≡ afterRebuild g (Two d e) s
+    go (yes accepted) =
+        by-columns g (fit .some) (afterRebuild g (Two e d) s) (afterRebuild g (Two d e) s) (rebuild-length g (Two e d) s bytes also ∙ fit .whole) (rebuild-length g (Two d e) s bytes accepted ∙ fit .whole)
+        (λ i r hi hr.
+        after-rebuild g (Two e d) s bytes also i r hi hr
+        ∙ rebuild-order reedSolomon 8 255 reed-solomon (g .n) (fit .disks) d e (column g s i) (columns-symbols g s bytes i) (sound g (Two d e) s bytes accepted) r hr
+        ∙ sym (after-rebuild g (Two d e) s bytes accepted i r hi hr))
+      where
+        also : rebuildRefusal g (length s) (Two e d) ≡ 0
+        also = order ∙ accepted
+
+        fit : Whole g s
+        fit = fitting g (Two d e) s bytes accepted
+    go (no refused) = rebuild-refused g (Two e d) s (λ z. refused (sym order ∙ z)) ∙ sym (rebuild-refused g (Two d e) s refused)
 
 -- ---- after an accepted call column i depends on the earlier column i, the call's numbers and, for a write, the new byte there
 abbrev pub SameColumn : Geometry → ℕ → List ℕ → List ℕ → Type 0
@@ -158,13 +190,13 @@ pub write-local : (g : Geometry) (disk offset : ℕ) (new other s t : List ℕ) 
     → writeRefusal g (length s) disk offset (length new) ≡ 0
     → (i : ℕ)
     → i < g .b
-    → getD new (i - offset) 0 ≡ getD other (i - offset) 0
+    → (covers offset (length new) i ≡ true → getD new (i - offset) 0 ≡ getD other (i - offset) 0)
     → SameColumn g i s t
     → SameColumn g i (afterWrite g disk offset new s) (afterWrite g disk offset other t)
 write-local g disk offset new other s t hs ht hn len count accepted i hi byte same r hr =
     ap (λ (l : List ℕ). column g l i r) (write-done g disk offset new s accepted)
     ∙ lift-at g (rule new) s (fit .whole) hi hr
-    ∙ at (covers offset (length new) i)
+    ∙ at (covers offset (length new) i) refl
     ∙ ap (λ (n : ℕ). choose (covers offset n i) (writeColumn reedSolomon (g .n) disk (getD other (i - offset) 0) (column g t i)) (column g t i) r) (sym count)
     ∙ sym
     (ap (λ (l : List ℕ). column g l i r)
@@ -180,9 +212,9 @@ write-local g disk offset new other s t hs ht hn len count accepted i hi byte sa
     fit : Whole g s
     fit = shape-whole g (length s) (numbers .0) s refl
 
-    at : (b : Bool) → choose b (writeColumn reedSolomon (g .n) disk (getD new (i - offset) 0) (column g s i)) (column g s i) r
+    at : (b : Bool) → covers offset (length new) i ≡ b → choose b (writeColumn reedSolomon (g .n) disk (getD new (i - offset) 0) (column g s i)) (column g s i) r
         ≡ choose b (writeColumn reedSolomon (g .n) disk (getD other (i - offset) 0) (column g t i)) (column g t i) r
-    at true =
+    at true e =
         moved-same reedSolomon 8 255 reed-solomon (g .n) (fit .disks) (set disk (getD new (i - offset) 0)) (Unit {0}) (column g s i) (column g t i) (numbers .1, hn (i - offset)) (columns-symbols g s hs i) (columns-symbols g t ht i) same r hr
-        ∙ ap (λ (v : ℕ). writeColumn reedSolomon (g .n) disk v (column g t i) r) byte
-    at false = same r hr
+        ∙ ap (λ (v : ℕ). writeColumn reedSolomon (g .n) disk v (column g t i) r) (byte e)
+    at false e = same r hr
