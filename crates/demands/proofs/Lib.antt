@@ -9,3 +9,4 @@ pub mod Members
 pub mod Demand3
 pub mod Demand2
 pub mod Verdicts
+pub mod Checks

@@ -1,0 +1,95 @@
+-- The check over the definition that its contract cites: what an accepted call leaves in the verdict buffer.
+-- Each statement is that of `Verdicts` at column i.
+-- Assumes nothing.
+use mathlib.Core.Path.{_≡_, refl, sym, ap, _∙_}
+use mathlib.Core.Logic.{_≢_, _↔_}
+use mathlib.Core.List.{List, [], _∷_}
+use Prim.Native.Nat.{ℕ, _+_, _≤_, _<_}
+use native.Mathlib.Decide.{ℕ-discrete}
+use lib.ListN.{length, getD}
+use Rattle.stripe.specs.declared.Geometry.{Geometry}
+use Rattle.stripe.specs.declared.Device.{Device}
+use Rattle.stripe.specs.declared.Device.the-variants.{Data, P, Q}
+use Rattle.stripe.specs.declared.Lost.the-variants.{One}
+use Rattle.stripe.specs.Column.{Column, put, roleOf, Encoded, reedSolomon, verdict}
+use Rattle.stripe.specs.Stripe.{column, verdicts}
+use Rattle.stripe.specs.Refusals.{refusal1, refusal2, refusal3, refusal7, encodeRefusal, checkRefusal}
+use Rattle.stripe.specs.Calls.{afterCheck}
+use Rattle.stripe.proofs.Refused.{first-kept, shape-whole, left-done}
+use Rattle.stripe.proofs.Put.{put-same, put-other}
+use Rattle.demands.specs.Loss.{Spared, Sound-loss}
+use Rattle.demands.specs.Series.{Bytes}
+use Rattle.demands.proofs.Columns.{Symbols}
+use Rattle.demands.proofs.Bytes.{columns-symbols}
+use Rattle.demands.proofs.Demand2.{SameColumn}
+use Rattle.demands.proofs.Verdicts.{verdict-zero, verdict-p, verdict-q, verdict-data, verdict-at, verdict-local}
+
+-- the verdict that names a device
+abbrev pub rightVerdict : Device → ℕ
+rightVerdict (Data z) = 16 + z
+rightVerdict P = 1
+rightVerdict Q = 2
+
+-- the device of a column that no longer has its byte is named
+verdict-right : (n : ℕ) → n ≤ 255 → (c : Column) → Symbols 8 c → Encoded reedSolomon n c → (v : ℕ) → v < 256 → (d : Device)
+    → Sound-loss n (One d)
+    → v ≢ c (roleOf n d)
+    → verdict n (put (roleOf n d) v c) ≡ rightVerdict d
+verdict-right n few c symbols h v byte (Data z) known changed = verdict-data n few c symbols h v byte z known changed
+verdict-right n few c symbols h v byte P known changed = verdict-p n few c symbols h v byte changed
+verdict-right n few c symbols h v byte Q known changed = verdict-q n few c symbols h v byte changed
+
+module _ (g : Geometry) (t room : List ℕ) (accepted : checkRefusal g (length t) (length room) ≡ 0) (i : ℕ) (hi : i < g .b) where
+  few : g .n ≤ 255
+  few = shape-whole g (length t) (go (ℕ-discrete (encodeRefusal g (length t)) 0)) t refl .disks
+    where
+      go : Dec (encodeRefusal g (length t) ≡ 0) → encodeRefusal g (length t) ≡ 0
+      go (yes e) = e
+      go (no n) = sym (first-kept (refusal1 g ∷ refusal2 g ∷ refusal3 g (length t) ∷ []) (refusal7 g (length room) ∷ []) n) ∙ accepted
+
+  after-check : getD (afterCheck g t room) i 0 ≡ verdict (g .n) (column g t i)
+  unfolding afterCheck
+  after-check =
+      ap (λ (l : List ℕ). getD l i 0) (left-done (checkRefusal g (length t) (length room)) (verdicts g t) room accepted) ∙ verdict-at g t i hi
+
+  -- 0 exactly where both equations hold
+  pub check-clean : (getD (afterCheck g t room) i 0 ≡ 0) ↔ Encoded reedSolomon (g .n) (column g t i)
+  check-clean =
+      let zero = verdict-zero (g .n) few (column g t i) in
+      (λ e. zero .0 (sym after-check ∙ e), λ h. after-check ∙ zero .1 h)
+
+  -- where the column of s was encoded and t differs from it there on one device, the verdict names that device; where it doesn't, it is 0
+  module _ (s : List ℕ) (h : Encoded reedSolomon (g .n) (column g s i)) where
+    pub check-right : Bytes s → Bytes t → (d : Device) → Sound-loss (g .n) (One d)
+        → ((r : ℕ) → r < g .n + 2 → Spared (g .n) (One d) r → column g t i r ≡ column g s i r)
+        → column g t i (roleOf (g .n) d) ≢ column g s i (roleOf (g .n) d)
+        → getD (afterCheck g t room) i 0 ≡ rightVerdict d
+    check-right hs ht d known others changed =
+        after-check
+        ∙ verdict-local (g .n) (column g t i) (put x v (column g s i)) (λ r hr. at r hr (ℕ-discrete r x))
+        ∙ verdict-right (g .n) few (column g s i) (columns-symbols g s hs i) h v (columns-symbols g t ht i x) d known changed
+      where
+        x : ℕ
+        x = roleOf (g .n) d
+
+        v : ℕ
+        v = column g t i x
+
+        at : (r : ℕ) → r < g .n + 2 → Dec (r ≡ x) → column g t i r ≡ put x v (column g s i) r
+        at r hr (yes e) = rw e (sym (put-same x v (column g s i)))
+        at r hr (no n) = others r hr n ∙ sym (put-other x v (column g s i) r n)
+
+    pub check-unchanged : SameColumn g i t s → getD (afterCheck g t room) i 0 ≡ 0
+    check-unchanged same =
+        after-check ∙ verdict-local (g .n) (column g t i) (column g s i) same ∙ verdict-zero (g .n) few (column g s i) .1 h
+
+-- verdict i depends on column i alone
+pub check-local : (g : Geometry) (s t room other : List ℕ) → checkRefusal g (length s) (length room) ≡ 0 → checkRefusal g (length t) (length other) ≡ 0
+    → (i : ℕ)
+    → i < g .b
+    → SameColumn g i s t
+    → getD (afterCheck g s room) i 0 ≡ getD (afterCheck g t other) i 0
+check-local g s t room other accepted also i hi same =
+    after-check g s room accepted i hi
+    ∙ verdict-local (g .n) (column g s i) (column g t i) same
+    ∙ sym (after-check g t other also i hi)
