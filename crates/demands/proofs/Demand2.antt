@@ -8,22 +8,26 @@ use mathlib.Core.List.{List, [], _∷_}
 use Prim.Native.Nat.{ℕ, _+_, _-_, _≤_, _<_}
 use native.Mathlib.Omega.{arith}
 use native.Mathlib.Decide.{ℕ-discrete}
-use borrow.Author.Tests.{eq-eqb, ne-eqb}
+use borrow.Author.Tests.{eqb-false, eq-eqb, ne-eqb}
 use lib.Dec.{eqb}
 use lib.ListN.{length, getD}
+use Rattle.gf256.specs.Field.{sum}
 use Rattle.stripe.specs.declared.Geometry.{Geometry}
 use Rattle.stripe.specs.declared.Device.{Device}
-use Rattle.stripe.specs.declared.Device.the-variants.{P, Q}
+use Rattle.stripe.specs.declared.Device.the-variants.{Data, P, Q}
 use Rattle.stripe.specs.declared.Lost.{Lost}
 use Rattle.stripe.specs.declared.Lost.the-variants.{One, Two}
 use Rattle.stripe.specs.Choice.{choose, either}
-use Rattle.stripe.specs.Column.{Column, roleOf, Encoded, encodeColumn, writeColumn, rebuildColumn, reedSolomon}
+use Rattle.stripe.specs.Column.{Column, roleOf, newByte, Encoded, encodeColumn, writeColumn, rebuildColumn, reedSolomon}
 use Rattle.stripe.specs.Stripe.{size, column, covers, lift, encoded, written, rebuilt}
 use Rattle.stripe.specs.Refusals.{firstOf, refusal1, refusal2, refusal3, unknown, encodeRefusal, writeRefusal, rebuildRefusal}
 use Rattle.stripe.specs.Calls.{afterEncode, afterWrite, afterRebuild}
 use Rattle.stripe.specs.Parts.{Whole}
 use Rattle.stripe.proofs.Places.{length-lift, lift-at, by-columns}
 use Rattle.stripe.proofs.Refused.{shape-whole}
+use Rattle.stripe.proofs.Inside.{known-role}
+use Rattle.stripe.proofs.Put.{put-same}
+use Rattle.stripe.proofs.Total.{total-same}
 use Rattle.demands.specs.Loss.{Spared, Sound-loss, Meets}
 use Rattle.demands.specs.Series.{Bytes, EncodedStripe}
 use Rattle.demands.proofs.ReedSolomon.{reed-solomon}
@@ -123,6 +127,47 @@ module _ (g : Geometry) (l : Lost) (s : List ℕ) (bytes : Bytes s) (accepted : 
 
       few : g .n ≤ 255
       few = fit .disks
+
+-- ---- what the new byte of one named device comes from
+module _ (g : Geometry) (s t : List ℕ) (hs : Bytes s) (ht : Bytes t) (len : length t ≡ length s) (i : ℕ) (hi : i < g .b) where
+  -- after both rebuilds the device has the same byte at column i
+  abbrev SameByte : Device → Type 0
+  SameByte d = column g (afterRebuild g (One d) t) i (roleOf (g .n) d) ≡ column g (afterRebuild g (One d) s) i (roleOf (g .n) d)
+
+  same-byte : (d : Device) → rebuildRefusal g (length s) (One d) ≡ 0
+      → newByte reedSolomon (g .n) d (column g t i) ≡ newByte reedSolomon (g .n) d (column g s i)
+      → SameByte d
+  same-byte d accepted e =
+      after-rebuild g (One d) t ht (ap (λ (n : ℕ). rebuildRefusal g n (One d)) len ∙ accepted) i x hi below
+      ∙ put-same x (newByte reedSolomon (g .n) d (column g t i)) (column g t i)
+      ∙ e
+      ∙ sym (after-rebuild g (One d) s hs accepted i x hi below ∙ put-same x (newByte reedSolomon (g .n) d (column g s i)) (column g s i))
+    where
+      x : ℕ
+      x = roleOf (g .n) d
+
+      below : x < g .n + 2
+      below = known-role (g .n) d (sound g (One d) s hs accepted)
+
+  -- a data disk's from the other data and P, without Q
+  pub one-data-without-Q : (x : ℕ) → rebuildRefusal g (length s) (One (Data x)) ≡ 0
+      → ((r : ℕ) → r < g .n + 1 → r ≢ x → column g t i r ≡ column g s i r)
+      → SameByte (Data x)
+  one-data-without-Q x accepted agree =
+      same-byte (Data x) accepted
+      (ap₂ sum (agree (g .n) (omega arith) (omega (arith, sound g (One (Data x)) s hs accepted))) (total-same (g .n) (λ k p. at k p (eqb k x) refl)))
+    where
+      at : (k : ℕ) → k < g .n → (b : Bool) → eqb k x ≡ b → choose b 0 (column g t i k) ≡ choose b 0 (column g s i k)
+      at k p true q = refl
+      at k p false q = agree k (omega arith) (eqb-false k x q)
+
+  -- a parity's from the data alone
+  module _ (agree : (k : ℕ) → k < g .n → column g t i k ≡ column g s i k) where
+    pub one-P-from-data : rebuildRefusal g (length s) (One P) ≡ 0 → SameByte P
+    one-P-from-data accepted = same-byte P accepted (total-same (g .n) agree)
+
+    pub one-Q-from-data : rebuildRefusal g (length s) (One Q) ≡ 0 → SameByte Q
+    one-Q-from-data accepted = same-byte Q accepted (total-same (g .n) (λ k p. ap (reedSolomon .act k) (agree k p)))
 
 -- ---- the order of the two names doesn't matter, be the call accepted or refused
 either-comm : (a b : Bool) → either a b ≡ either b a
