@@ -1,7 +1,7 @@
 -- Demand 2, over the definitions that the contracts of encode, write and rebuild cite, for every stripe of bytes and every accepted call.
 -- Each statement is that of `Columns` or `Rebuild` at every column.
 -- Assumes nothing.
-use mathlib.Core.Path.{_≡_, refl, sym, ap, ap₂, subst, _∙_}
+use mathlib.Core.Path.{_≡_, refl, sym, ap, ap₂, _∙_}
 use mathlib.Core.Logic.{_≢_}
 use mathlib.Core.Bool.{Bool, true, false}
 use mathlib.Core.List.{List, [], _∷_}
@@ -18,8 +18,8 @@ use Rattle.stripe.specs.declared.Device.the-variants.{Data, P, Q}
 use Rattle.stripe.specs.declared.Lost.{Lost}
 use Rattle.stripe.specs.declared.Lost.the-variants.{One, Two}
 use Rattle.stripe.specs.Choice.{choose, either}
-use Rattle.stripe.specs.Column.{Column, roleOf, newByte, Encoded, encodeColumn, writeColumn, rebuildColumn, reedSolomon}
-use Rattle.stripe.specs.Stripe.{size, column, covers, lift, encoded, written, rebuilt}
+use Rattle.stripe.specs.Column.{Column, roleOf, newByte, encodeColumn, writeColumn, rebuildColumn, reedSolomon}
+use Rattle.stripe.specs.Stripe.{column, covers}
 use Rattle.stripe.specs.Refusals.{firstOf, refusal1, refusal2, refusal3, unknown, encodeRefusal, writeRefusal, rebuildRefusal}
 use Rattle.stripe.specs.Calls.{afterEncode, afterWrite, afterRebuild}
 use Rattle.stripe.specs.Parts.{Whole}

@@ -1,19 +1,19 @@
 -- The check is right: where a column was encoded and at most one device has changed in it since, its verdict names that device; and it
 -- is 0 exactly where both equations hold. The four rows of the paper's table, and equations 24 to 27.
 -- Assumes nothing.
-use mathlib.Core.Path.{_≡_, refl, sym, ap, ap₂, subst, _∙_}
+use mathlib.Core.Path.{_≡_, refl, sym, ap, ap₂, _∙_}
 use mathlib.Core.Logic.{_≢_, _↔_}
 use mathlib.Core.Bool.{Bool, true, false}
 use mathlib.Core.List.{List}
-use Prim.Native.Nat.{ℕ, suc, _+_, _≤_, _<_}
+use Prim.Native.Nat.{ℕ, _+_, _≤_, _<_}
 use native.Mathlib.Nat.{suc-ne-zero}
 use native.Mathlib.Omega.{arith}
 use native.Mathlib.Decide.{ℕ-discrete}
-use borrow.Author.Tests.{eq-eqb, ne-eqb, lt-ltb}
-use lib.Dec.{eqb, ltb}
+use borrow.Author.Tests.{ne-eqb, lt-ltb}
+use lib.Dec.{ltb}
 use lib.ListN.{getD}
 use Rattle.gf256.specs.Field.{sum, product, power, inverse, logarithm}
-use Rattle.gf256.proofs.Laws.{sum-comm, sum-self, sum-exchange, sum-only-zero, zero-sum, xor-lt, product-lt, product-right, product-comm, product-assoc, product-one, product-inverse, product-nonzero, power-lt, power-of-two-nonzero, logarithm-power-of-two}
+use Rattle.gf256.proofs.Laws.{sum-self, sum-exchange, sum-only-zero, zero-sum, xor-lt, product-right, product-comm, product-assoc, product-one, product-inverse, product-nonzero, power-lt, power-of-two-nonzero, logarithm-power-of-two}
 use Rattle.stripe.specs.Choice.{choose}
 use Rattle.stripe.specs.Column.{Column, put, parityP, parityQ, syndromeP, syndromeQ, Encoded, reedSolomon, verdictOf, verdict, located}
 use Rattle.stripe.specs.declared.Geometry.{Geometry}
