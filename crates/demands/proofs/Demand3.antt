@@ -173,9 +173,9 @@ one-gives len (write h disk offset new) (write h′ disk′ offset′ new′) ap
     after p =
         ⊎-elim (λ q. first (inr (before-stretch offset (length new) i (omega arith)))) (λ q. second (inr (after-stretch offset′ (length new′) i q)))
         (below-or-not i (offset′ + length new′))
-one-gives len (write h disk offset new) (refused h′ lost) apart k i = absurd apart
+one-gives len (write h disk offset new) (refused h′ naming) apart k i = absurd apart
 one-gives len (write h disk offset new) (loss lost junk) apart k i = absurd apart
-one-gives len (refused h lost) b apart k i = absurd apart
+one-gives len (refused h naming) b apart k i = absurd apart
 one-gives len (loss lost junk) b apart k i = absurd apart
 
 -- ---- each data byte is the last value accepted for it, or its first where there was none
@@ -189,7 +189,7 @@ feed-given len (write h disk offset new) t k i = go (sets h len disk offset new 
     go : (b : Bool) → choose b (getD new (i - offset) 0) (t k i) ≡ valueOr (t k i) (choose b (given (getD new (i - offset) 0)) none)
     go true = refl
     go false = refl
-feed-given len (refused h lost) t k i = refl
+feed-given len (refused h naming) t k i = refl
 feed-given len (loss lost junk) t k i = refl
 
 feed-latest : (len : ℕ) (ms : List Member) (t : Table) (k i : ℕ) → feedAll len ms t k i ≡ valueOr (t k i) (latest len ms k i)
@@ -258,13 +258,13 @@ module _ (g : Geometry) (s : List ℕ) (bytes : Bytes s) (fits : encodeRefusal g
       fewer : (ms : List Member) → AllAllowed g (length s) (EncodedStripe g s) ms → AllAllowed g (length s) (EncodedStripe g s) (withoutLosses ms)
       fewer [] a = tt
       fewer (write h disk offset new ∷ ms) a = (a .0, fewer ms (a .1))
-      fewer (refused h lost ∷ ms) a = (a .0, fewer ms (a .1))
+      fewer (refused h naming ∷ ms) a = (a .0, fewer ms (a .1))
       fewer (loss lost junk ∷ ms) a = fewer ms (a .1)
 
       same : (ms : List Member) (k i : ℕ) → latest (length s) ms k i ≡ latest (length s) (withoutLosses ms) k i
       same [] k i = refl
       same (write h disk offset new ∷ ms) k i = ap (later (givenBy (length s) (write h disk offset new) k i)) (same ms k i)
-      same (refused h lost ∷ ms) k i = ap (later none) (same ms k i)
+      same (refused h naming ∷ ms) k i = ap (later none) (same ms k i)
       same (loss lost junk ∷ ms) k i = none-earlier (latest (length s) ms k i) ∙ same ms k i
 
   -- two neighbouring writes that share no byte may change places anywhere in a series

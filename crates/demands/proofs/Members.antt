@@ -11,10 +11,13 @@ use lib.Dec.{eqb}
 use lib.ListN.{length, getD}
 use Rattle.stripe.specs.declared.Geometry.{Geometry}
 use Rattle.stripe.specs.declared.Lost.{Lost}
+use Rattle.stripe.specs.declared.Naming.{Naming}
+use Rattle.stripe.specs.declared.Naming.the-variants.{Loss, Wrong}
 use Rattle.stripe.specs.Choice.{choose, both}
 use Rattle.stripe.specs.Column.{Column, put, writeColumn, rebuildColumn, reedSolomon}
 use Rattle.stripe.specs.Stripe.{size, column, covers, lift, written, rebuilt}
 use Rattle.stripe.specs.Refusals.{encodeRefusal, writeRefusal, rebuildRefusal}
+use Rattle.stripe.specs.Codes.{refusalOf}
 use Rattle.stripe.proofs.Places.{length-lift, lift-at}
 use Rattle.stripe.proofs.Refused.{shape-whole}
 use Rattle.demands.specs.Loss.{Sound-loss}
@@ -31,7 +34,7 @@ use Rattle.demands.proofs.Accepted.{write-accepted, write-done, write-r
 abbrev pub moveAt : Geometry → ℕ → ℕ → Member → Move
 moveAt g len i (write h disk offset new) =
     choose (both (eqb (writeRefusal h len disk offset (length new)) 0) (covers offset (length new) i)) (set disk (getD new (i - offset) 0)) keep
-moveAt g len i (refused h lost) = keep
+moveAt g len i (refused h naming) = keep
 moveAt g len i (loss lost junk) = ColumnSeries.lose lost (column g junk i)
 
 -- the table's column is fed by the move
@@ -48,7 +51,7 @@ feed-move g len i (write h disk offset new) t =
     go true false true k e = rw e
     go true false false k e = refl
     go false b c k e = refl
-feed-move g len i (refused h lost) t = refl
+feed-move g len i (refused h naming) t = refl
 feed-move g len i (loss lost junk) t = refl
 
 -- what a member does to a stripe s of geometry g
@@ -126,9 +129,9 @@ module _ (g : Geometry) (s : List ℕ) (bytes : Bytes s) (fits : encodeRefusal g
           stays g s m bytes (write-refused h disk offset new s n)
           (λ i. rw (ne-eqb k 0 n))
 
-  refused-steps : (h : Geometry) (lost : Lost) → rebuildRefusal h (length s) lost ≢ 0 → Steps g s (refused h lost)
-  refused-steps h lost n =
-      stays g s (refused h lost) bytes (rebuild-refused h lost s n) (λ i. refl)
+  refused-steps : (h : Geometry) (naming : Naming) → refusalOf h (length s) naming ≢ 0 → Steps g s (refused h naming)
+  refused-steps h (Loss lost) n = stays g s (refused h (Loss lost)) bytes (rebuild-refused h lost s n) (λ i. refl)
+  refused-steps h Wrong n = stays g s (refused h Wrong) bytes refl (λ i. refl)
 
   loss-steps : (lost : Lost) (junk : List ℕ) → Bytes junk → rebuildRefusal g (length s) lost ≡ 0 → Steps g s (loss lost junk)
   loss-steps lost junk hj e =
@@ -168,7 +171,7 @@ module _ (g : Geometry) (s : List ℕ) (bytes : Bytes s) (fits : encodeRefusal g
 
   pub steps : (m : Member) (enc : Type 0) → Allowed g (length s) enc m → Steps g s m
   steps (write h disk offset new) enc a = write-steps h disk offset new enc a
-  steps (refused h lost) enc a = refused-steps h lost a
+  steps (refused h naming) enc a = refused-steps h naming a
   steps (loss lost junk) enc a = loss-steps lost junk (a .0) (a .1)
 
 -- the moves are sound
@@ -188,5 +191,5 @@ sound-move g len enc i (write h disk offset new) a = go (ℕ-discrete k 0)
     go : Dec (k ≡ 0) → SoundMove 8 (g .n) enc (moveAt g len i (write h disk offset new))
     go (yes e) = rw (eq-eqb k 0 e) (covered e (covers offset (length new) i))
     go (no n) = rw (ne-eqb k 0 n) tt
-sound-move g len enc i (refused h lost) a = tt
+sound-move g len enc i (refused h naming) a = tt
 sound-move g len enc i (loss lost junk) a = (rebuild-accepted g len lost (a .1) .1, columns-symbols g junk (a .0) i, a .2)

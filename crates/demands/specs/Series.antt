@@ -10,17 +10,20 @@ use Rattle.gf256.specs.Field.{sum}
 use Rattle.stripe.specs.declared.Geometry.{Geometry}
 use Rattle.stripe.specs.declared.Lost.{Lost}
 use Rattle.stripe.specs.declared.Lost.the-variants.{One, Two}
+use Rattle.stripe.specs.declared.Naming.{Naming}
 use Rattle.stripe.specs.Choice.{choose, both, either}
 use Rattle.stripe.specs.Column.{Column, roleOf, parityP, parityQ, syndromeP, syndromeQ, Encoded, reedSolomon}
 use Rattle.stripe.specs.Stripe.{column, covers, lift}
 use Rattle.stripe.specs.Refusals.{encodeRefusal, writeRefusal, rebuildRefusal}
 use Rattle.stripe.specs.Calls.{afterWrite, afterRebuild}
+use Rattle.stripe.specs.Codes.{refusalOf, rebuiltBy}
 
--- A member: a call of write, accepted or refused; a refused call of rebuild; or a loss with its rebuild, which are one member. A loss
--- puts what a list of bytes holds on the devices that it names.
+-- A member: a call of write, accepted or refused; a refused call of rebuild; or a loss with its rebuild, which are one member. A refused
+-- rebuild holds what it named: `Loss lost`, or what two codes name, `namingOf first second`. A loss puts what a list of bytes holds on
+-- the devices that it names.
 pub data Member : Type 0 where
   write : Geometry → ℕ → ℕ → List ℕ → Member
-  refused : Geometry → Lost → Member
+  refused : Geometry → Naming → Member
   loss : Lost → List ℕ → Member
 
 abbrev pub named : ℕ → Lost → ℕ → Bool
@@ -36,7 +39,7 @@ lose g lost junk s = lift g (λ i c. overwrite (g .n) lost (column g junk i) c) 
 -- what a member makes of a stripe of geometry g, and what a series does
 abbrev pub step : Geometry → Member → List ℕ → List ℕ
 step g (write h disk offset new) s = afterWrite h disk offset new s
-step g (refused h lost) s = afterRebuild h lost s
+step g (refused h naming) s = rebuiltBy h naming s
 step g (loss lost junk) s = afterRebuild g lost (lose g lost junk s)
 
 abbrev pub run : Geometry → List Member → List ℕ → List ℕ
@@ -55,7 +58,7 @@ EncodedStripe g s = (i : ℕ) → i < g .b → Encoded reedSolomon (g .n) (colum
 -- rebuild, and stands only where the start is encoded (`encoded`).
 abbrev pub Allowed : Geometry → ℕ → Type 0 → Member → Type 0
 Allowed g len encoded (write h disk offset new) = Bytes new × (writeRefusal h len disk offset (length new) ≡ 0 → h ≡ g)
-Allowed g len encoded (refused h lost) = rebuildRefusal h len lost ≢ 0
+Allowed g len encoded (refused h naming) = refusalOf h len naming ≢ 0
 Allowed g len encoded (loss lost junk) = Bytes junk × (rebuildRefusal g len lost ≡ 0) × encoded
 
 abbrev pub AllAllowed : Geometry → ℕ → Type 0 → List Member → Type 0
@@ -76,7 +79,7 @@ sets h len disk offset new k i =
 
 abbrev pub feed : ℕ → Member → Table → Table
 feed len (write h disk offset new) t k i = choose (sets h len disk offset new k i) (getD new (i - offset) 0) (t k i)
-feed len (refused h lost) t k i = t k i
+feed len (refused h naming) t k i = t k i
 feed len (loss lost junk) t k i = t k i
 
 abbrev pub feedAll : ℕ → List Member → Table → Table
@@ -99,7 +102,7 @@ pub data Latest : Type 0 where
 
 abbrev pub givenBy : ℕ → Member → ℕ → ℕ → Latest
 givenBy len (write h disk offset new) k i = choose (sets h len disk offset new k i) (given (getD new (i - offset) 0)) none
-givenBy len (refused h lost) k i = none
+givenBy len (refused h naming) k i = none
 givenBy len (loss lost junk) k i = none
 
 abbrev pub later : Latest → Latest → Latest
@@ -118,14 +121,14 @@ valueOr v (given u) = u
 abbrev pub Apart : Member → Member → Type 0
 Apart (write h disk offset new) (write h′ disk′ offset′ new′) =
     (disk ≢ disk′) ⊎ ((offset + length new ≤ offset′) ⊎ (offset′ + length new′ ≤ offset))
-Apart (write h disk offset new) (refused h′ lost) = ⊥
+Apart (write h disk offset new) (refused h′ naming) = ⊥
 Apart (write h disk offset new) (loss lost junk) = ⊥
-Apart (refused h lost) m = ⊥
+Apart (refused h naming) m = ⊥
 Apart (loss lost junk) m = ⊥
 
 -- the series without its losses
 abbrev pub withoutLosses : List Member → List Member
 withoutLosses [] = []
 withoutLosses (write h disk offset new ∷ ms) = write h disk offset new ∷ withoutLosses ms
-withoutLosses (refused h lost ∷ ms) = refused h lost ∷ withoutLosses ms
+withoutLosses (refused h naming ∷ ms) = refused h naming ∷ withoutLosses ms
 withoutLosses (loss lost junk ∷ ms) = withoutLosses ms
