@@ -3,7 +3,7 @@
 -- Assumes nothing.
 use mathlib.Core.Path.{_≡_, refl, sym, ap, ap₂, subst, fun-ext, _∙_}
 use mathlib.Core.Logic.{_≢_, _⊎_, inl, inr, ⊎-elim}
-use mathlib.Core.Bool.{Bool, true, false}
+use mathlib.Core.Bool.{Bool, true, false, true≢false}
 use mathlib.Core.List.{List, [], _∷_, _++_}
 use Prim.Native.Nat.{ℕ, _+_, _-_, _≤_, _<_}
 use native.Mathlib.Omega.{arith}
@@ -128,55 +128,61 @@ later-exchange : (a b c : Latest) → (a ≡ none) ⊎ (b ≡ none) → later a 
 later-exchange a b (given v) h = refl
 later-exchange a b none h = ⊎-elim (λ e. rw e (none-earlier b)) (λ e. rw e (sym (none-earlier a))) h
 
-misses : (h : Geometry) (len disk offset : ℕ) (new : List ℕ) (k i : ℕ) → (eqb k disk ≡ false) ⊎ (covers offset (length new) i ≡ false)
-    → givenBy len (write h disk offset new) k i ≡ none
-misses h len disk offset new k i why = ap (λ (b : Bool). choose b (given (getD new (i - offset) 0)) none) (⊎-elim other-disk other-place why)
+one-gives : (len : ℕ) (a b : Member) → Apart len a b → (k i : ℕ) → (givenBy len a k i ≡ none) ⊎ (givenBy len b k i ≡ none)
+one-gives len (write h disk offset new) (write h′ disk′ offset′ new′) apart k i =
+    go (sets h len disk offset new k i) (sets h′ len disk′ offset′ new′ k i) (apart k i)
   where
-    accepted : Bool
-    accepted = eqb (writeRefusal h len disk offset (length new)) 0
-
-    both-false : (b : Bool) → both b false ≡ false
-    both-false true = refl
-    both-false false = refl
-
-    other-disk : eqb k disk ≡ false → sets h len disk offset new k i ≡ false
-    other-disk e = rw e (both-false accepted)
-
-    other-place : covers offset (length new) i ≡ false → sets h len disk offset new k i ≡ false
-    other-place e = rw e (ap (both accepted) (both-false (eqb k disk)) ∙ both-false accepted)
-
-one-gives : (len : ℕ) (a b : Member) → Apart a b → (k i : ℕ) → (givenBy len a k i ≡ none) ⊎ (givenBy len b k i ≡ none)
-one-gives len (write h disk offset new) (write h′ disk′ offset′ new′) apart k i = ⊎-elim disks (λ p. ⊎-elim before after p) apart
-  where
-    One : Type 0
-    One = (givenBy len (write h disk offset new) k i ≡ none) ⊎ (givenBy len (write h′ disk′ offset′ new′) k i ≡ none)
-
-    first : (eqb k disk ≡ false) ⊎ (covers offset (length new) i ≡ false) → One
-    first why = inl (misses h len disk offset new k i why)
-
-    second : (eqb k disk′ ≡ false) ⊎ (covers offset′ (length new′) i ≡ false) → One
-    second why = inr (misses h′ len disk′ offset′ new′ k i why)
-
-    disks : disk ≢ disk′ → One
-    disks ne = at (ℕ-discrete k disk)
-      where
-        at : Dec (k ≡ disk) → One
-        at (yes e) = second (inl (ne-eqb k disk′ (λ f. ne (sym e ∙ f))))
-        at (no n) = first (inl (ne-eqb k disk n))
-
-    before : offset + length new ≤ offset′ → One
-    before p =
-        ⊎-elim (λ q. second (inr (before-stretch offset′ (length new′) i (omega arith)))) (λ q. first (inr (after-stretch offset (length new) i q)))
-        (below-or-not i (offset + length new))
-
-    after : offset′ + length new′ ≤ offset → One
-    after p =
-        ⊎-elim (λ q. first (inr (before-stretch offset (length new) i (omega arith)))) (λ q. second (inr (after-stretch offset′ (length new′) i q)))
-        (below-or-not i (offset′ + length new′))
+    go : (a b : Bool) → both a b ≡ false
+        → (choose a (given (getD new (i - offset) 0)) none ≡ none) ⊎ (choose b (given (getD new′ (i - offset′) 0)) none ≡ none)
+    go true b e = inr (rw e)
+    go false b e = inl refl
 one-gives len (write h disk offset new) (refused h′ naming) apart k i = absurd apart
 one-gives len (write h disk offset new) (loss lost junk) apart k i = absurd apart
 one-gives len (refused h naming) b apart k i = absurd apart
 one-gives len (loss lost junk) b apart k i = absurd apart
+
+-- ---- writes are apart by their numbers: on different disks, or where one ends before the other starts
+not-both : (a b : Bool) → (a ≡ false) ⊎ (b ≡ false) → both a b ≡ false
+not-both true b why = ⊎-elim (λ e. absurd (true≢false e)) (λ e. e) why
+not-both false b why = refl
+
+misses : (h : Geometry) (len disk offset : ℕ) (new : List ℕ) (k i : ℕ) → (eqb k disk ≡ false) ⊎ (covers offset (length new) i ≡ false)
+    → sets h len disk offset new k i ≡ false
+misses h len disk offset new k i why =
+    not-both (eqb (writeRefusal h len disk offset (length new)) 0) (both (eqb k disk) (covers offset (length new) i))
+    (inr (not-both (eqb k disk) (covers offset (length new) i) why))
+
+pub apart-by-places : (len : ℕ) (h : Geometry) (disk offset : ℕ) (new : List ℕ) (h′ : Geometry) (disk′ offset′ : ℕ) (new′ : List ℕ)
+    → (disk ≢ disk′) ⊎ ((offset + length new ≤ offset′) ⊎ (offset′ + length new′ ≤ offset))
+    → Apart len (write h disk offset new) (write h′ disk′ offset′ new′)
+apart-by-places len h disk offset new h′ disk′ offset′ new′ places k i = ⊎-elim disks (λ p. ⊎-elim before after p) places
+  where
+    Neither : Type 0
+    Neither = both (sets h len disk offset new k i) (sets h′ len disk′ offset′ new′ k i) ≡ false
+
+    first : (eqb k disk ≡ false) ⊎ (covers offset (length new) i ≡ false) → Neither
+    first why = rw (misses h len disk offset new k i why)
+
+    second : (eqb k disk′ ≡ false) ⊎ (covers offset′ (length new′) i ≡ false) → Neither
+    second why =
+        not-both (sets h len disk offset new k i) (sets h′ len disk′ offset′ new′ k i) (inr (misses h′ len disk′ offset′ new′ k i why))
+
+    disks : disk ≢ disk′ → Neither
+    disks ne = at (ℕ-discrete k disk)
+      where
+        at : Dec (k ≡ disk) → Neither
+        at (yes e) = second (inl (ne-eqb k disk′ (λ f. ne (sym e ∙ f))))
+        at (no n) = first (inl (ne-eqb k disk n))
+
+    before : offset + length new ≤ offset′ → Neither
+    before p =
+        ⊎-elim (λ q. second (inr (before-stretch offset′ (length new′) i (omega arith)))) (λ q. first (inr (after-stretch offset (length new) i q)))
+        (below-or-not i (offset + length new))
+
+    after : offset′ + length new′ ≤ offset → Neither
+    after p =
+        ⊎-elim (λ q. first (inr (before-stretch offset (length new) i (omega arith)))) (λ q. second (inr (after-stretch offset′ (length new′) i q)))
+        (below-or-not i (offset′ + length new′))
 
 -- ---- each data byte is the last value accepted for it, or its first where there was none
 valueOr-later : (v : ℕ) (a b : Latest) → valueOr (valueOr v a) b ≡ valueOr v (later a b)
@@ -268,7 +274,7 @@ module _ (g : Geometry) (s : List ℕ) (bytes : Bytes s) (fits : encodeRefusal g
       same (loss lost junk ∷ ms) k i = none-earlier (latest (length s) ms k i) ∙ same ms k i
 
   -- two neighbouring writes that share no byte may change places anywhere in a series
-  pub change-places : (before after : List Member) (a b : Member) → Apart a b → AllAllowed g (length s) (EncodedStripe g s) (before ++ (a ∷ b ∷ after))
+  pub change-places : (before after : List Member) (a b : Member) → Apart (length s) a b → AllAllowed g (length s) (EncodedStripe g s) (before ++ (a ∷ b ∷ after))
       → run g (before ++ (a ∷ b ∷ after)) s ≡ run g (before ++ (b ∷ a ∷ after)) s
   change-places before after a b apart allowed =
       alike (before ++ (a ∷ b ∷ after)) (before ++ (b ∷ a ∷ after)) allowed (exchanged before allowed) (λ k i hk hi. same before k i)

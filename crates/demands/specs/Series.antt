@@ -1,9 +1,9 @@
 -- The series of demand 3, over the definitions that the contracts of write and rebuild cite.
 use mathlib.Core.Path.{_≡_}
-use mathlib.Core.Logic.{_≢_, _⊎_}
+use mathlib.Core.Logic.{_≢_}
 use mathlib.Core.Bool.{Bool, true, false}
 use mathlib.Core.List.{List, [], _∷_}
-use Prim.Native.Nat.{ℕ, _+_, _-_, _≤_, _<_}
+use Prim.Native.Nat.{ℕ, _+_, _-_, _<_}
 use lib.Dec.{eqb}
 use lib.ListN.{length, getD}
 use Rattle.gf256.specs.Field.{sum}
@@ -117,14 +117,14 @@ abbrev pub valueOr : ℕ → Latest → ℕ
 valueOr v none = v
 valueOr v (given u) = u
 
--- two writes that share no data byte
-abbrev pub Apart : Member → Member → Type 0
-Apart (write h disk offset new) (write h′ disk′ offset′ new′) =
-    (disk ≢ disk′) ⊎ ((offset + length new ≤ offset′) ⊎ (offset′ + length new′ ≤ offset))
-Apart (write h disk offset new) (refused h′ naming) = ⊥
-Apart (write h disk offset new) (loss lost junk) = ⊥
-Apart (refused h naming) m = ⊥
-Apart (loss lost junk) m = ⊥
+-- two writes, and no data byte is set by both
+abbrev pub Apart : ℕ → Member → Member → Type 0
+Apart len (write h disk offset new) (write h′ disk′ offset′ new′) =
+    (k i : ℕ) → both (sets h len disk offset new k i) (sets h′ len disk′ offset′ new′ k i) ≡ false
+Apart len (write h disk offset new) (refused h′ naming) = ⊥
+Apart len (write h disk offset new) (loss lost junk) = ⊥
+Apart len (refused h naming) m = ⊥
+Apart len (loss lost junk) m = ⊥
 
 -- the series without its losses
 abbrev pub withoutLosses : List Member → List Member
