@@ -119,11 +119,33 @@ module _ (g : Geometry) (s : List ℕ) (ms : List Member) (bytes : Bytes s) (fit
   pub series-bytes : Bytes (run g ms s)
   series-bytes = all-columns .bytes
 
+-- ---- each data byte is the last value accepted for it, or its first where there was none
+valueOr-later : (v : ℕ) (a b : Latest) → valueOr (valueOr v a) b ≡ valueOr v (later a b)
+valueOr-later v a none = refl
+valueOr-later v a (given u) = refl
+
+feed-given : (len : ℕ) (m : Member) (t : Table) (k i : ℕ) → feed len m t k i ≡ valueOr (t k i) (givenBy len m k i)
+feed-given len (write h disk offset new) t k i = go (sets h len disk offset new k i)
+  where
+    go : (b : Bool) → choose b (getD new (i - offset) 0) (t k i) ≡ valueOr (t k i) (choose b (given (getD new (i - offset) 0)) none)
+    go true = refl
+    go false = refl
+feed-given len (refused h naming) t k i = refl
+feed-given len (loss lost junk) t k i = refl
+
+feed-latest : (len : ℕ) (ms : List Member) (t : Table) (k i : ℕ) → feedAll len ms t k i ≡ valueOr (t k i) (latest len ms k i)
+feed-latest len [] t k i = refl
+feed-latest len (m ∷ ms) t k i =
+    feed-latest len ms (feed len m t) k i
+    ∙ ap (λ (v : ℕ). valueOr v (latest len ms k i)) (feed-given len m t k i)
+    ∙ valueOr-later (t k i) (givenBy len m k i) (latest len ms k i)
+
+-- ---- writes that share no byte
 none-earlier : (a : Latest) → later none a ≡ a
 none-earlier none = refl
 none-earlier (given v) = refl
 
--- of two writes that share no byte, one gives nothing to a byte
+-- one of them gives nothing to a byte
 later-exchange : (a b c : Latest) → (a ≡ none) ⊎ (b ≡ none) → later a (later b c) ≡ later b (later a c)
 later-exchange a b (given v) h = refl
 later-exchange a b none h = ⊎-elim (λ e. rw e (none-earlier b)) (λ e. rw e (sym (none-earlier a))) h
@@ -141,7 +163,7 @@ one-gives len (write h disk offset new) (loss lost junk) apart k i = absurd apar
 one-gives len (refused h naming) b apart k i = absurd apart
 one-gives len (loss lost junk) b apart k i = absurd apart
 
--- ---- writes are apart by their numbers: on different disks, or where one ends before the other starts
+-- they are apart by their numbers: on different disks, or where one ends before the other starts
 not-both : (a b : Bool) → (a ≡ false) ⊎ (b ≡ false) → both a b ≡ false
 not-both true b why = ⊎-elim (λ e. absurd (true≢false e)) (λ e. e) why
 not-both false b why = refl
@@ -183,27 +205,6 @@ apart-by-places len h disk offset new h′ disk′ offset′ new′ places k i =
     after p =
         ⊎-elim (λ q. first (inr (before-stretch offset (length new) i (omega arith)))) (λ q. second (inr (after-stretch offset′ (length new′) i q)))
         (below-or-not i (offset′ + length new′))
-
--- ---- each data byte is the last value accepted for it, or its first where there was none
-valueOr-later : (v : ℕ) (a b : Latest) → valueOr (valueOr v a) b ≡ valueOr v (later a b)
-valueOr-later v a none = refl
-valueOr-later v a (given u) = refl
-
-feed-given : (len : ℕ) (m : Member) (t : Table) (k i : ℕ) → feed len m t k i ≡ valueOr (t k i) (givenBy len m k i)
-feed-given len (write h disk offset new) t k i = go (sets h len disk offset new k i)
-  where
-    go : (b : Bool) → choose b (getD new (i - offset) 0) (t k i) ≡ valueOr (t k i) (choose b (given (getD new (i - offset) 0)) none)
-    go true = refl
-    go false = refl
-feed-given len (refused h naming) t k i = refl
-feed-given len (loss lost junk) t k i = refl
-
-feed-latest : (len : ℕ) (ms : List Member) (t : Table) (k i : ℕ) → feedAll len ms t k i ≡ valueOr (t k i) (latest len ms k i)
-feed-latest len [] t k i = refl
-feed-latest len (m ∷ ms) t k i =
-    feed-latest len ms (feed len m t) k i
-    ∙ ap (λ (v : ℕ). valueOr v (latest len ms k i)) (feed-given len m t k i)
-    ∙ valueOr-later (t k i) (givenBy len m k i) (latest len ms k i)
 
 module _ (g : Geometry) (s : List ℕ) (bytes : Bytes s) (fits : encodeRefusal g (length s) ≡ 0) where
   pub last-accepted : (ms : List Member) → AllAllowed g (length s) (EncodedStripe g s) ms → (i k : ℕ) → i < g .b → k < g .n

@@ -100,6 +100,10 @@ pub data Latest : Type 0 where
   none : Latest
   given : ℕ → Latest
 
+abbrev pub valueOr : ℕ → Latest → ℕ
+valueOr v none = v
+valueOr v (given u) = u
+
 abbrev pub givenBy : ℕ → Member → ℕ → ℕ → Latest
 givenBy len (write h disk offset new) k i = choose (sets h len disk offset new k i) (given (getD new (i - offset) 0)) none
 givenBy len (refused h naming) k i = none
@@ -112,10 +116,6 @@ later earlier (given v) = given v
 abbrev pub latest : ℕ → List Member → ℕ → ℕ → Latest
 latest len [] k i = none
 latest len (m ∷ ms) k i = later (givenBy len m k i) (latest len ms k i)
-
-abbrev pub valueOr : ℕ → Latest → ℕ
-valueOr v none = v
-valueOr v (given u) = u
 
 -- two writes, and no data byte is set by both
 abbrev pub Apart : ℕ → Member → Member → Type 0
