@@ -6,7 +6,7 @@ use mathlib.Core.Bool.{Bool, true, false}
 use mathlib.Core.List.{List, [], _∷_}
 use Prim.Native.Nat.{ℕ, _+_, _^_, _≤_, _<_}
 use native.Mathlib.Omega.{arith}
-use native.Mathlib.Decide.{ℕ-discrete}
+use native.Mathlib.Decide.{decLt, ℕ-discrete}
 use borrow.Author.Tests.{ne-eqb}
 use lib.Dec.{eqb}
 use Rattle.gf256.specs.Field.{sum}
@@ -166,6 +166,34 @@ module _ (code : Code) (w m : ℕ) (laws : Lawful code w m) (n : ℕ) (few : n �
       sym (sum-cancel (parityQ code n e) (e (n + 1)))
       ∙ ap (sum (parityQ code n e)) (sum-comm (parityQ code n e) (e (n + 1)) ∙ kept .second)
       ∙ ap (λ (x : ℕ). sum x (syndromeQ code n c)) (total-same n (λ k p. ap (code .act k) (kept .contents k p)))
+
+  -- two series with the same table leave the column alike on every device
+  pub column-alike : (ms ns : List Move) (c : Column) → Symbols w c → SoundMoves w n (Encoded code n c) ms → SoundMoves w n (Encoded code n c) ns
+      → ((k : ℕ) → k < n → fedBy ms c k ≡ fedBy ns c k)
+      → (r : ℕ)
+      → r < n + 2
+      → movedBy code n ms c r ≡ movedBy code n ns c r
+  column-alike ms ns c h sm sn same r hr = go (decLt r n) (ℕ-discrete r n)
+    where
+      left : Kept c (movedBy code n ms c) (fedBy ms c)
+      left = column-series ms c h sm
+
+      right : Kept c (movedBy code n ns c) (fedBy ns c)
+      right = column-series ns c h sn
+
+      go : Dec (r < n) → Dec (r ≡ n) → movedBy code n ms c r ≡ movedBy code n ns c r
+      go (yes p) q = left .contents r p ∙ same r p ∙ sym (right .contents r p)
+      go (no p) (yes q) =
+          rw q
+          (kept-p c (movedBy code n ms c) (fedBy ms c) left
+          ∙ ap (λ (x : ℕ). sum x (syndromeP n c)) (total-same n same)
+          ∙ sym (kept-p c (movedBy code n ns c) (fedBy ns c) right))
+      go (no p) (no q) =
+          let last : r ≡ n + 1 = omega arith in
+          rw last
+          (kept-q c (movedBy code n ms c) (fedBy ms c) left
+          ∙ ap (λ (x : ℕ). sum x (syndromeQ code n c)) (total-same n (λ k hk. ap (code .act k) (same k hk)))
+          ∙ sym (kept-q c (movedBy code n ns c) (fedBy ns c) right))
 
   -- ---- columns that agree on every device go on agreeing
   pub moved-same : (mv : Move) (enc : Type 0) (c e : Column) → SoundMove w n enc mv → Symbols w c → Symbols w e → ((r : ℕ) → r < n + 2 → c r ≡ e r)

@@ -7,7 +7,7 @@ use mathlib.Core.Bool.{Bool, true, false, true≢false}
 use mathlib.Core.List.{List, [], _∷_, _++_}
 use Prim.Native.Nat.{ℕ, _+_, _-_, _≤_, _<_}
 use native.Mathlib.Omega.{arith}
-use native.Mathlib.Decide.{decLt, ℕ-discrete}
+use native.Mathlib.Decide.{ℕ-discrete}
 use borrow.Author.Tests.{eq-eqb, ne-eqb}
 use lib.Dec.{eqb}
 use lib.ListN.{length, getD}
@@ -26,7 +26,7 @@ use Rattle.stripe.proofs.Refused.{shape-whole}
 use Rattle.demands.specs.Series.{Member, write, refused, loss, step, run, Bytes, EncodedStripe, Allowed, AllAllowed, Table, tableOf, sets, feed, feedAll, Claim, Latest, none, given, givenBy, later, latest, valueOr, Apart, withoutLosses}
 use Rattle.demands.proofs.ReedSolomon.{reed-solomon}
 use Rattle.demands.proofs.Columns.{Symbols, encoded-same}
-use Rattle.demands.proofs.ColumnSeries.{Move, moved, movedBy, fed, fedBy, SoundMoves, sound-map, Kept, column-series, kept-p, kept-q, kept-encoded, movedBy-same, moved-symbols}
+use Rattle.demands.proofs.ColumnSeries.{Move, moved, movedBy, fed, fedBy, SoundMoves, sound-map, Kept, column-series, column-alike, kept-p, kept-q, kept-encoded, movedBy-same, moved-symbols}
 use Rattle.demands.proofs.Bytes.{columns-symbols}
 use Rattle.demands.proofs.Members.{moveAt, feed-move, Steps, steps, sound-move}
 
@@ -78,10 +78,13 @@ ran g (m ∷ ms) s enc hs fits a =
 
 -- ---- the claim
 module _ (g : Geometry) (s : List ℕ) (ms : List Member) (bytes : Bytes s) (fits : encodeRefusal g (length s) ≡ 0) (allowed : AllAllowed g (length s) (EncodedStripe g s) ms) where
+  sound-at : (i : ℕ) → i < g .b → SoundMoves 8 (g .n) (Encoded reedSolomon (g .n) (column g s i)) (movesAt g (length s) i ms)
+  sound-at i hi =
+      sound-map 8 (g .n) (EncodedStripe g s) (Encoded reedSolomon (g .n) (column g s i)) (λ e. e i hi) (movesAt g (length s) i ms) (sound-moves g (length s) (EncodedStripe g s) i ms allowed)
+
   kept-at : (i : ℕ) → i < g .b → Kept reedSolomon 8 255 reed-solomon (g .n) (few g s fits) (column g s i) (movedBy reedSolomon (g .n) (movesAt g (length s) i ms) (column g s i)) (fedBy (movesAt g (length s) i ms) (column g s i))
   kept-at i hi =
-      column-series reedSolomon 8 255 reed-solomon (g .n) (few g s fits) (movesAt g (length s) i ms) (column g s i) (columns-symbols g s bytes i)
-      (sound-map 8 (g .n) (EncodedStripe g s) (Encoded reedSolomon (g .n) (column g s i)) (λ e. e i hi) (movesAt g (length s) i ms) (sound-moves g (length s) (EncodedStripe g s) i ms allowed))
+      column-series reedSolomon 8 255 reed-solomon (g .n) (few g s fits) (movesAt g (length s) i ms) (column g s i) (columns-symbols g s bytes i) (sound-at i hi)
 
   all-columns : Ran g s ms
   all-columns = ran g ms s (EncodedStripe g s) bytes fits allowed
@@ -222,34 +225,22 @@ module _ (g : Geometry) (s : List ℕ) (bytes : Bytes s) (fits : encodeRefusal g
       whole : Whole g s
       whole = shape-whole g (length s) fits s refl
 
-      table : (k i : ℕ) → k < g .n → i < g .b → feedAll (length s) ms (tableOf g s) k i ≡ feedAll (length s) ns (tableOf g s) k i
-      table k i hk hi =
-          feed-latest (length s) ms (tableOf g s) k i
+      table : (i k : ℕ) → i < g .b → k < g .n → fedBy (movesAt g (length s) i ms) (column g s i) k ≡ fedBy (movesAt g (length s) i ns) (column g s i) k
+      table i k hi hk =
+          fed-as g s ms bytes fits am i k
+          ∙ feed-latest (length s) ms (tableOf g s) k i
           ∙ ap (valueOr (column g s i k)) (same k i hk hi)
           ∙ sym (feed-latest (length s) ns (tableOf g s) k i)
+          ∙ sym (fed-as g s ns bytes fits an i k)
 
       at : (i r : ℕ) → i < g .b → r < g .n + 2 → column g (run g ms s) i r ≡ column g (run g ns s) i r
-      at i r hi hr = go (decLt r (g .n)) (ℕ-discrete r (g .n))
-        where
-          left : Claim g s ms i
-          left = demand3 g s ms bytes fits am i hi
-
-          right : Claim g s ns i
-          right = demand3 g s ns bytes fits an i hi
-
-          go : Dec (r < g .n) → Dec (r ≡ g .n) → column g (run g ms s) i r ≡ column g (run g ns s) i r
-          go (yes p) q = left .contents r p ∙ table r i p hi ∙ sym (right .contents r p)
-          go (no p) (yes q) =
-              rw q
-              (left .first
-              ∙ ap (λ (x : ℕ). sum x (syndromeP (g .n) (column g s i))) (total-same (g .n) (λ k hk. table k i hk hi))
-              ∙ sym (right .first))
-          go (no p) (no q) =
-              let last : r ≡ g .n + 1 = omega arith in
-              rw last
-              (left .second
-              ∙ ap (λ (x : ℕ). sum x (syndromeQ reedSolomon (g .n) (column g s i))) (total-same (g .n) (λ k hk. ap (reedSolomon .act k) (table k i hk hi)))
-              ∙ sym (right .second))
+      at i r hi hr =
+          all-columns g s ms bytes fits am .columns i r hi hr
+          ∙ column-alike reedSolomon 8 255 reed-solomon (g .n) (few g s fits) (movesAt g (length s) i ms) (movesAt g (length s) i ns) (column g s i) (columns-symbols g s bytes i) (sound-at g s ms bytes fits am i hi) (sound-at g s ns bytes fits an i hi)
+          (λ k hk. table i k hi hk)
+          r
+          hr
+          ∙ sym (all-columns g s ns bytes fits an .columns i r hi hr)
 
   -- an encoded start ends encoded
   pub ends-encoded : (ms : List Member) → AllAllowed g (length s) (EncodedStripe g s) ms → EncodedStripe g s → EncodedStripe g (run g ms s)
