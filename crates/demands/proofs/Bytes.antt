@@ -1,8 +1,6 @@
 -- Every call and every member keeps a stripe's length and its bytes.
 -- Assumes nothing.
-use mathlib.Core.Path.{_≡_, refl, sym, ap, subst, _∙_}
-use mathlib.Core.Logic.{_≢_}
-use mathlib.Core.Bool.{Bool, true, false}
+use mathlib.Core.Path.{sym, subst}
 use mathlib.Core.List.{List}
 use Prim.Native.Nat.{ℕ, zero, suc, _+_, _-_, _≤_, _<_}
 use native.Mathlib.Omega.{arith}
@@ -10,7 +8,7 @@ use native.Mathlib.Decide.{decLt}
 use lib.Dec.{lit<}
 use lib.ListN.{length, getD, List·getD-eq-default}
 use Rattle.stripe.specs.declared.Geometry.{Geometry}
-use Rattle.stripe.specs.Choice.{choose, tabulate}
+use Rattle.stripe.specs.Choice.{tabulate}
 use Rattle.stripe.specs.Column.{Column}
 use Rattle.stripe.specs.Stripe.{start, column, columnAt, roleAt, lift}
 use Rattle.stripe.specs.Calls.{unlessRefused}

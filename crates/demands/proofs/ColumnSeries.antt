@@ -1,7 +1,6 @@
 -- The series of demand 3 in one column, over any lawful code: by induction on the moves, the data are the table's and P* and Q* stay.
 -- Assumes nothing.
-use mathlib.Core.Path.{_≡_, refl, sym, ap, ap₂, subst, _∙_}
-use mathlib.Core.Logic.{_≢_}
+use mathlib.Core.Path.{_≡_, refl, sym, ap, ap₂, _∙_}
 use mathlib.Core.Bool.{Bool, true, false}
 use mathlib.Core.List.{List, [], _∷_}
 use Prim.Native.Nat.{ℕ, _+_, _^_, _≤_, _<_}
@@ -13,7 +12,7 @@ use Rattle.gf256.specs.Field.{sum}
 use Rattle.gf256.proofs.Laws.{sum-comm, sum-self, sum-cancel, sum-only-zero, xor-lt}
 use Rattle.stripe.specs.declared.Lost.{Lost}
 use Rattle.stripe.specs.declared.Lost.the-variants.{One, Two}
-use Rattle.stripe.specs.Choice.{choose, either}
+use Rattle.stripe.specs.Choice.{choose}
 use Rattle.stripe.specs.Column.{Column, Code, put, roleOf, parityP, parityQ, syndromeP, syndromeQ, Encoded, writeColumn, rebuildColumn}
 use Rattle.stripe.proofs.Put.{put-same, put-other}
 use Rattle.stripe.proofs.Total.{total-same}

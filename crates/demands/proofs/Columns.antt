@@ -3,18 +3,17 @@
 -- Assumes nothing.
 use mathlib.Core.Path.{_≡_, refl, sym, ap, ap₂, _∙_}
 use mathlib.Core.Logic.{_≢_, _⊎_, inl, inr, ⊎-elim}
-use Prim.Native.Nat.{ℕ, zero, suc, _+_, _^_, _≤_, _<_}
-use native.Mathlib.Nat.{le-refl}
+use Prim.Native.Nat.{ℕ, zero, _+_, _^_, _≤_, _<_}
 use native.Mathlib.Omega.{arith}
 use native.Mathlib.Decide.{decLt, ℕ-discrete}
 use lib.Dec.{eqb}
 use Rattle.gf256.specs.Field.{sum}
-use Rattle.gf256.proofs.Laws.{sum-comm, sum-assoc, sum-self, zero-sum, sum-zero, sum-exchange, sum-cancel, sum-only-zero, xor-lt}
+use Rattle.gf256.proofs.Laws.{sum-comm, sum-assoc, sum-self, sum-zero, sum-exchange, sum-cancel, sum-only-zero, xor-lt}
 use Rattle.stripe.specs.Choice.{choose}
-use Rattle.stripe.specs.Column.{Column, Code, put, total, parityP, parityQ, Encoded, encodeColumn, adjustColumn, writeColumn, syndromeP, syndromeQ}
+use Rattle.stripe.specs.Column.{Column, Code, put, parityP, parityQ, Encoded, encodeColumn, adjustColumn, writeColumn, syndromeP, syndromeQ}
 use Rattle.stripe.proofs.Put.{put-same, put-other, put-back}
 use Rattle.stripe.proofs.Total.{total-same}
-use Rattle.stripe.proofs.Weighted.{Additive, weighted, only, weight-zero, weighted-sum, weighted-none, weighted-only, weighted-put, weighted-outside, put-split}
+use Rattle.stripe.proofs.Weighted.{Additive, weighted, only, weighted-sum, weighted-none, weighted-only, weighted-put}
 use Rattle.demands.proofs.Lawful.{Lawful}
 
 -- every symbol of a column has at most w bits

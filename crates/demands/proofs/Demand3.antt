@@ -1,21 +1,21 @@
 -- Demand 3, over the definitions that the contracts of write and rebuild cite: the claim about a whole series, and what follows from it.
 -- In each column the series is one of moves, for which `ColumnSeries` has the claim over any lawful code.
 -- Assumes nothing.
-use mathlib.Core.Path.{_≡_, refl, sym, ap, ap₂, subst, fun-ext, _∙_}
+use mathlib.Core.Path.{_≡_, refl, sym, ap, subst, _∙_}
 use mathlib.Core.Logic.{_≢_, _⊎_, inl, inr, ⊎-elim}
 use mathlib.Core.Bool.{Bool, true, false, true≢false}
 use mathlib.Core.List.{List, [], _∷_, _++_}
 use Prim.Native.Nat.{ℕ, _+_, _-_, _≤_, _<_}
 use native.Mathlib.Omega.{arith}
 use native.Mathlib.Decide.{ℕ-discrete}
-use borrow.Author.Tests.{eq-eqb, ne-eqb}
+use borrow.Author.Tests.{ne-eqb}
 use lib.Dec.{eqb}
 use lib.ListN.{length, getD}
 use Rattle.gf256.specs.Field.{sum}
 use Rattle.stripe.specs.declared.Geometry.{Geometry}
 use Rattle.stripe.specs.Choice.{choose, both}
-use Rattle.stripe.specs.Column.{Column, parityP, parityQ, syndromeP, syndromeQ, Encoded, reedSolomon}
-use Rattle.stripe.specs.Stripe.{size, column, covers}
+use Rattle.stripe.specs.Column.{Column, syndromeP, syndromeQ, Encoded, reedSolomon}
+use Rattle.stripe.specs.Stripe.{column, covers}
 use Rattle.stripe.specs.Refusals.{encodeRefusal, writeRefusal}
 use Rattle.stripe.specs.Parts.{Whole}
 use Rattle.stripe.proofs.Sweep.{below-or-not}
@@ -23,9 +23,9 @@ use Rattle.stripe.proofs.Stretch.{before-stretch, after-stretch}
 use Rattle.stripe.proofs.Places.{by-columns}
 use Rattle.stripe.proofs.Total.{total-same}
 use Rattle.stripe.proofs.Refused.{shape-whole}
-use Rattle.demands.specs.Series.{Member, write, refused, loss, step, run, Bytes, EncodedStripe, Allowed, AllAllowed, Table, tableOf, sets, feed, feedAll, Claim, Latest, none, given, givenBy, later, latest, valueOr, Apart, withoutLosses}
+use Rattle.demands.specs.Series.{Member, write, refused, loss, step, run, Bytes, EncodedStripe, AllAllowed, Table, tableOf, sets, feed, feedAll, Claim, Latest, none, given, givenBy, later, latest, valueOr, Apart, withoutLosses}
 use Rattle.demands.proofs.ReedSolomon.{reed-solomon}
-use Rattle.demands.proofs.Columns.{Symbols, encoded-same}
+use Rattle.demands.proofs.Columns.{encoded-same}
 use Rattle.demands.proofs.ColumnSeries.{Move, moved, movedBy, fed, fedBy, SoundMoves, sound-map, Kept, column-series, column-alike, kept-p, kept-q, kept-encoded, movedBy-same, moved-symbols}
 use Rattle.demands.proofs.Bytes.{columns-symbols}
 use Rattle.demands.proofs.Members.{moveAt, feed-move, Steps, steps, sound-move}

@@ -1,9 +1,9 @@
 -- What a member of a series is in each column of the stripe: one of the moves of `ColumnSeries`; and it keeps the length and the bytes.
 -- Assumes nothing.
-use mathlib.Core.Path.{_≡_, refl, sym, ap, ap₂, subst, fun-ext, _∙_}
+use mathlib.Core.Path.{_≡_, refl, sym, ap, subst, fun-ext, _∙_}
 use mathlib.Core.Logic.{_≢_}
 use mathlib.Core.Bool.{Bool, true, false}
-use mathlib.Core.List.{List, [], _∷_}
+use mathlib.Core.List.{List, []}
 use Prim.Native.Nat.{ℕ, _+_, _-_, _≤_, _<_}
 use native.Mathlib.Decide.{ℕ-discrete}
 use borrow.Author.Tests.{eq-eqb, ne-eqb}
@@ -14,14 +14,13 @@ use Rattle.stripe.specs.declared.Lost.{Lost}
 use Rattle.stripe.specs.declared.Naming.{Naming}
 use Rattle.stripe.specs.declared.Naming.the-variants.{Loss, Wrong}
 use Rattle.stripe.specs.Choice.{choose, both}
-use Rattle.stripe.specs.Column.{Column, put, writeColumn, rebuildColumn, reedSolomon}
+use Rattle.stripe.specs.Column.{Column, writeColumn, rebuildColumn, reedSolomon}
 use Rattle.stripe.specs.Stripe.{size, column, covers, lift, written, rebuilt}
 use Rattle.stripe.specs.Refusals.{encodeRefusal, writeRefusal, rebuildRefusal}
 use Rattle.stripe.specs.Codes.{refusalOf}
 use Rattle.stripe.proofs.Places.{length-lift, lift-at}
 use Rattle.stripe.proofs.Refused.{shape-whole}
-use Rattle.demands.specs.Loss.{Sound-loss}
-use Rattle.demands.specs.Series.{Member, write, refused, loss, lose, overwrite, step, Bytes, Allowed, Table, sets, feed}
+use Rattle.demands.specs.Series.{Member, write, refused, loss, lose, overwrite, step, Bytes, Allowed, Table, feed}
 use Rattle.demands.proofs.ReedSolomon.{reed-solomon}
 use Rattle.demands.proofs.Columns.{Symbols}
 use Rattle.demands.proofs.Rebuild.{rebuild-symbols, rebuild-blind}

@@ -1,9 +1,9 @@
 -- Rebuild of a column, over any lawful code: it changes the named devices alone, its result meets the equations used, and it is the only
 -- one that does.
 -- Assumes nothing.
-use mathlib.Core.Path.{_≡_, refl, sym, ap, ap₂, subst, _∙_}
+use mathlib.Core.Path.{_≡_, refl, sym, ap, subst, _∙_}
 use mathlib.Core.Logic.{_≢_}
-use Prim.Native.Nat.{ℕ, suc, _+_, _^_, _≤_, _<_}
+use Prim.Native.Nat.{ℕ, _+_, _^_, _≤_, _<_}
 use native.Mathlib.Omega.{arith}
 use native.Mathlib.Decide.{ℕ-discrete}
 use lib.Dec.{eqb}
@@ -16,7 +16,6 @@ use Rattle.stripe.specs.declared.Lost.{Lost}
 use Rattle.stripe.specs.declared.Lost.the-variants.{One, Two}
 use Rattle.stripe.specs.Choice.{choose}
 use Rattle.stripe.specs.Column.{Column, Code, put, roleOf, parityP, parityQ, fromP, fromQ, restP, restQ, fromBoth, newByte, newBytes, Encoded, rebuildColumn}
-use Rattle.stripe.specs.Parts.{Known}
 use Rattle.stripe.proofs.Put.{put-same, put-other, put-comm, put-back}
 use Rattle.stripe.proofs.Total.{total-same, total-lt}
 use Rattle.stripe.proofs.Weighted.{Additive, weighted, weighted-put, weighted-outside}

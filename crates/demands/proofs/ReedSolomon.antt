@@ -1,7 +1,7 @@
 -- The Reed-Solomon code of the paper is lawful, at bytes and up to 255 data disks: by the laws of the field. The last two laws are the
 -- paper's equations 3 to 5 and 6 to 20.
 -- Assumes nothing.
-use mathlib.Core.Path.{_≡_, refl, sym, ap, ap₂, _∙_}
+use mathlib.Core.Path.{_≡_, sym, ap, ap₂, _∙_}
 use mathlib.Core.Logic.{_≢_}
 use Prim.Native.Nat.{ℕ, _<_}
 use lib.Dec.{lit<}

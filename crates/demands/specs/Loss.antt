@@ -1,7 +1,7 @@
 -- What is said of a loss: the roles that it spares, the equations that its rebuild uses, and when its names are sound.
 use mathlib.Core.Path.{_≡_}
 use mathlib.Core.Logic.{_≢_}
-use Prim.Native.Nat.{ℕ, _+_, _<_}
+use Prim.Native.Nat.{ℕ, _+_}
 use Rattle.stripe.specs.declared.Device.the-variants.{Data, P, Q}
 use Rattle.stripe.specs.declared.Lost.{Lost}
 use Rattle.stripe.specs.declared.Lost.the-variants.{One, Two}

@@ -14,7 +14,7 @@ use Rattle.stripe.specs.declared.Naming.{Naming}
 use Rattle.stripe.specs.Choice.{choose, both, either}
 use Rattle.stripe.specs.Column.{Column, roleOf, parityP, parityQ, syndromeP, syndromeQ, Encoded, reedSolomon}
 use Rattle.stripe.specs.Stripe.{column, covers, lift}
-use Rattle.stripe.specs.Refusals.{encodeRefusal, writeRefusal, rebuildRefusal}
+use Rattle.stripe.specs.Refusals.{writeRefusal, rebuildRefusal}
 use Rattle.stripe.specs.Calls.{afterWrite, afterRebuild}
 use Rattle.stripe.specs.Codes.{refusalOf, rebuiltBy}
 

@@ -1,5 +1,5 @@
 -- The answer to one record: the operation's number, the operand a, and the number that is the exponent or holds the operand b.
-use mathlib.Core.List.{List, [], _∷_}
+use mathlib.Core.List.{[], _∷_}
 use Prim.Native.Nat.{ℕ, _%_}
 use lib.ListN.{getD}
 use Rattle.gf256.specs.Field.{sum, double, product, power, inverse, logarithm}

@@ -1,15 +1,15 @@
 -- Functions that respect the sum. Two of them that agree at the powers of two below 2^k agree at every number below 2^k, since
 -- such a number is the sum of the powers at its digits.
 -- Assumes nothing.
-use mathlib.Core.Path.{_≡_, refl, sym, ap, ap₂, _∙_}
-use Prim.Native.Nat.{ℕ, zero, suc, _+_, _*_, _/_, _%_, _^_, _<_}
-use native.Mathlib.Nat.{mod-lt, zero-lt-suc, le-refl, add-zero, zero-add, one-mul, zero-mul, le-suc}
+use mathlib.Core.Path.{_≡_, sym, ap, ap₂, _∙_}
+use Prim.Native.Nat.{ℕ, zero, suc, _*_, _/_, _%_, _^_, _<_}
+use native.Mathlib.Nat.{mod-lt, le-refl, add-zero, one-mul, zero-mul}
 use native.Mathlib.Numerals.{one-add}
 use native.Mathlib.Omega.{arith}
 use lib.Arith.{lt-one}
 use lib.Pow.{pow-pos, split, shr-lt}
 use lib.Bits.{bitXor, differ, xor-zero-l, xor-zero-r, xor-self, xor-shr, xor-mod, xor-block, xor-shifted}
-use Rattle.gf256.proofs.Xor.{Digit, off, on, digit, parity, xor-odd, xor-exchange, xor-cancel}
+use Rattle.gf256.proofs.Xor.{Digit, off, on, digit, parity, xor-odd, xor-exchange}
 
 abbrev pub Additive : (ℕ → ℕ) → Type 0
 Additive f = (x y : ℕ) → f (bitXor x y) ≡ bitXor (f x) (f y)

@@ -3,13 +3,12 @@
 -- Assumes nothing.
 use mathlib.Core.Path.{_≡_, refl, sym, ap, ap₂, subst, _∙_}
 use mathlib.Core.Bool.{Bool, true, false}
-use mathlib.Core.Logic.{_≢_, _⊎_, inl, inr}
+use mathlib.Core.Logic.{_≢_}
 use Prim.Native.Nat.{ℕ, zero, suc, _+_, _-_, _*_, _/_, _%_, _≤_, _<_, suc-le-suc}
-use native.Mathlib.Nat.{add-zero, zero-add, add-suc, suc-add, mul-suc, mul-zero, mod-lt, mod-eq-of-lt, div-add-mod', zero-lt-suc, mul-comm, suc-ne-zero, lt-irrefl, le-refl, le-of-eq, le-of-lt, ne-of-lt, lt-trans, le-of-suc-le-suc}
+use native.Mathlib.Nat.{add-zero, zero-add, suc-add, mul-suc, mul-zero, mod-lt, mod-eq-of-lt, div-add-mod', zero-lt-suc, mul-comm, suc-ne-zero, lt-irrefl, le-refl, le-of-eq, le-of-lt, ne-of-lt, lt-trans, le-of-suc-le-suc}
 use native.Mathlib.Numerals.{add-one}
 use native.Mathlib.Omega.{arith}
 use borrow.Author.Tests.{eq-eqb, ne-eqb}
-use lib.Arith.{le-zero}
 use lib.Dec.{eqb, lit<}
 use lib.Bits.{xor-lt, xor-self}
 use lib.ListN.{getD}

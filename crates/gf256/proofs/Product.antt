@@ -8,7 +8,7 @@ use native.Mathlib.Nat.{mod-lt, zero-lt-suc, mod-mod, mod-eq-of-lt, zero-mul, on
 use native.Mathlib.Omega.{arith}
 use lib.Dec.{T, lit<, lit≤}
 use lib.Pow.{pow-pos, shl-lt, field, mod-mod-pow}
-use lib.Bits.{bitXor, xor-lt}
+use lib.Bits.{xor-lt}
 use Rattle.gf256.specs.Field.{bit, sum, double, carryless, remainder, product}
 use Rattle.gf256.proofs.Check.{all, all-at, same, same-at}
 use Rattle.gf256.proofs.Xor.{Digit, off, on, parity}

@@ -1,10 +1,9 @@
 -- The rules of the two tables, each computed once over all of its entries: a power is 02 times the one before it, and after the last
 -- comes the first again; the logarithm undoes the power, and the power the logarithm.
 -- Assumes nothing.
-use mathlib.Core.Path.{_≡_, refl, sym, ap, _∙_}
+use mathlib.Core.Path.{_≡_, refl}
 use mathlib.Core.List.{List, [], _∷_}
-use Prim.Native.Nat.{ℕ, zero, suc, _+_, _%_, _<_}
-use native.Mathlib.Omega.{arith}
+use Prim.Native.Nat.{ℕ, suc, _+_, _%_, _<_}
 use lib.Dec.{T, ltb, ltb→lt}
 use lib.ListN.{getD}
 use Rattle.gf256.specs.Field.{double}

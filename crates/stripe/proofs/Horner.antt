@@ -1,7 +1,7 @@
 -- Horner's rule (equation 21): the sums over the disks from k on, and one disk more below them.
 -- Assumes nothing.
 use mathlib.Core.Path.{_≡_, refl, sym, ap, ap₂, _∙_}
-use Prim.Native.Nat.{ℕ, zero, suc, _+_, _-_, _≤_, _<_}
+use Prim.Native.Nat.{ℕ, suc, _+_, _-_, _≤_, _<_}
 use native.Mathlib.Nat.{zero-add, add-zero, sub-self, sub-zero}
 use native.Mathlib.Omega.{arith}
 use Rattle.gf256.specs.Field.{sum, double, product, power}

@@ -1,6 +1,6 @@
 -- What a write does to the columns: the stretch that it sets lies in one block, at the columns that it covers.
 -- Assumes nothing.
-use mathlib.Core.Path.{_≡_, refl, sym, ap, ap₂, subst, _∙_}
+use mathlib.Core.Path.{_≡_, refl, sym, ap, subst, _∙_}
 use mathlib.Core.Logic.{_≢_, _⊎_, ⊎-elim}
 use mathlib.Core.Bool.{Bool, true, false}
 use mathlib.Core.List.{List, _++_}
@@ -11,9 +11,9 @@ use lib.Dec.{eqb}
 use lib.ListN.{length, getD, take, drop, length-append, length-take, length-drop, List·getD-append}
 use lib.Seq.{length-take-le, getD-append-add, getD-take, getD-drop}
 use Rattle.stripe.specs.declared.Geometry.{Geometry}
-use Rattle.stripe.specs.Choice.{choose, both}
+use Rattle.stripe.specs.Choice.{choose}
 use Rattle.stripe.specs.Column.{Column, put, adjustColumn, writeColumn, reedSolomon}
-use Rattle.stripe.specs.Stripe.{start, size, column, covers, lift, written}
+use Rattle.stripe.specs.Stripe.{start, size, column, covers, written}
 use Rattle.stripe.specs.Parts.{Whole, Stretch, adjusted, spliced}
 use Rattle.stripe.proofs.Put.{put-same, put-other, by-role}
 use Rattle.stripe.proofs.Places.{block-end, start-mono, length-lift, lift-at, by-columns}

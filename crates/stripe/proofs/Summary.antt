@@ -1,9 +1,9 @@
 -- The summary of a list that is read from the front: it takes up each verdict in turn.
 -- Assumes nothing.
-use mathlib.Core.Path.{_≡_, refl, sym, ap, _∙_}
+use mathlib.Core.Path.{_≡_, refl, sym}
 use mathlib.Core.Bool.{Bool, true, false}
 use Prim.Native.Nat.{ℕ, zero, suc}
-use borrow.Author.Tests.{eqb-true, eq-eqb}
+use borrow.Author.Tests.{eqb-true}
 use lib.Dec.{eqb}
 use Rattle.stripe.specs.Choice.{choose, tabulate}
 use Rattle.stripe.specs.Stripe.{summary}

@@ -1,10 +1,9 @@
 -- Sums over the data disks in which disk k's symbol enters by a map t k that respects the sum: the right sides of equations 1 and 2.
 -- Assumes nothing.
-use mathlib.Core.Path.{_≡_, refl, sym, ap, ap₂, _∙_}
+use mathlib.Core.Path.{_≡_, sym, ap, ap₂, _∙_}
 use mathlib.Core.Logic.{_≢_}
 use Prim.Native.Nat.{ℕ, _≤_, _<_}
 use native.Mathlib.Omega.{arith}
-use native.Mathlib.Decide.{ℕ-discrete}
 use Rattle.gf256.specs.Field.{sum}
 use Rattle.gf256.proofs.Laws.{sum-self, zero-sum, sum-zero}
 use Rattle.stripe.specs.Column.{Column, put, total}

@@ -1,8 +1,7 @@
 -- One column: position i of all devices. A column gives the symbol of each role: data disk k is role k, P is role n, Q is role n + 1.
 -- Equations are numbered as in the paper.
-use Prim.Native.Nat.{ℕ, zero, suc, _+_, _<_}
+use Prim.Native.Nat.{ℕ, zero, suc, _+_}
 use mathlib.Core.Path.{_≡_}
-use mathlib.Core.Bool.{Bool, true, false}
 use lib.Dec.{eqb, ltb}
 use Rattle.gf256.specs.Field.{sum, product, power, inverse, logarithm}
 use Rattle.stripe.specs.declared.Device.{Device}

@@ -1,6 +1,6 @@
 -- The refusals: each number with its test, and each call's order. They depend on numbers and lengths alone.
-use Prim.Native.Nat.{ℕ, zero, suc, _+_, _-_}
-use mathlib.Core.Bool.{Bool, true, false, not}
+use Prim.Native.Nat.{ℕ, _+_, _-_}
+use mathlib.Core.Bool.{Bool, false, not}
 use mathlib.Core.List.{List, [], _∷_}
 use lib.Dec.{eqb, ltb, leb}
 use Rattle.stripe.specs.declared.Geometry.{Geometry}

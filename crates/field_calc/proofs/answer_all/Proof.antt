@@ -1,7 +1,7 @@
 -- `field_calc::answer_all` is safe, ends and counts its answers: an answer never stands past the record that it answers.
 -- Assumes nothing.
 use Prim.Native.Nat.{_≤_, _-_}
-use mathlib.Core.Path.{_≡_, _∙_}
+use mathlib.Core.Path.{_≡_}
 use native.Mathlib.Omega.{arith}
 use borrow.Author.Needs.{needs}
 use lib.ListN.{length}

@@ -1,6 +1,6 @@
 -- `stripe::adjust` meets its contract. The loop's invariant: the columns below offset + j are adjusted. The measure is what is left of the new bytes.
 -- Assumes nothing.
-use mathlib.Core.Path.{_≡_, refl, sym, ap, ap₂, subst, _∙_}
+use mathlib.Core.Path.{_≡_, sym, ap, ap₂, subst, _∙_}
 use mathlib.Core.List.{List}
 use Prim.Native.Nat.{ℕ, _+_, _-_, _≤_, _<_}
 use native.Mathlib.Nat.{le-refl, add-assoc}
@@ -11,7 +11,6 @@ use Rattle.stripe.proofs.Stretch.{covered, before-stretch, after-stretc
 use Rattle.stripe.proofs.Sweep.{Swept, sweep-from, sweep-pair, sweep-upto}
 use Rattle.stripe.specs.Choice.{choose}
 use Rattle.stripe.specs.Column.{Column, put, reedSolomon, adjustColumn}
-use Rattle.stripe.specs.Parts.{Sound}
 use Rattle.stripe.specs.Stripe.{start, column, covers}
 use Rattle.stripe.specs.declared.Geometry.{Geometry}
 use Rattle.stripe.proofs.adjust.Statement.{statement}

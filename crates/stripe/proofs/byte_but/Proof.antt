@@ -1,6 +1,6 @@
 -- `stripe::byte_but` meets its contract: by the two tests.
 -- Assumes nothing.
-use mathlib.Core.Path.{_≡_, sym, _∙_}
+use mathlib.Core.Path.{sym, _∙_}
 use borrow.Author.Needs.{needs}
 use borrow.Author.Tests.{eq-eqb, ne-eqb}
 use Rattle.stripe.proofs.byte_but.Statement.{statement}

@@ -1,6 +1,6 @@
 -- `stripe::encode` meets its contract: to encode is to recompute P and Q.
 -- Assumes nothing.
-use mathlib.Core.Path.{_≡_, refl, sym, ap, _∙_}
+use mathlib.Core.Path.{refl, sym, _∙_}
 use borrow.Author.Needs.{needs}
 use lib.ListN.{length}
 use Rattle.stripe.proofs.Refused.{shape-whole, left-alone, left-done}

@@ -1,6 +1,5 @@
 -- `stripe::first_nonzero` meets its contract, by the test.
 -- Assumes nothing.
-use mathlib.Core.Path.{_≡_, sym}
 use borrow.Author.Tests.{eq-eqb, ne-eqb}
 use Rattle.stripe.proofs.first_nonzero.Statement.{statement}
 use Rattle.stripe.proofs.first_nonzero.Tie as tie

@@ -1,7 +1,6 @@
 -- `stripe::judge_column` meets its contract: P* and Q* are stored plus recomputed.
 -- Assumes nothing.
-use mathlib.Core.Path.{_≡_, ap₂, _∙_}
-use Prim.Native.Nat.{ℕ}
+use mathlib.Core.Path.{ap₂, _∙_}
 use borrow.Author.Needs.{needs}
 use Rattle.gf256.specs.Field.{sum}
 use Rattle.stripe.specs.Column.{verdictOf}

@@ -2,15 +2,13 @@
 -- The measure is k.
 -- Assumes nothing.
 use mathlib.Core.Path.{_≡_, sym, ap, ap₂, subst, _∙_}
-use mathlib.Core.List.{List}
-use Prim.Native.Nat.{ℕ, suc, _+_, _-_, _≤_, _<_}
+use Prim.Native.Nat.{ℕ, suc, _-_, _≤_, _<_}
 use native.Mathlib.Omega.{arith}
 use borrow.Author.Needs.{needs}
 use Rattle.gf256.specs.Field.{sum, double, product, power}
 use Rattle.stripe.proofs.Horner.{tailP, tailQ, tail-none, tail-all, tailP-more, tailQ-more}
-use Rattle.stripe.specs.Column.{Column, put, total, reedSolomon}
+use Rattle.stripe.specs.Column.{Column, put, reedSolomon}
 use Rattle.stripe.specs.Stripe.{column}
-use Rattle.stripe.specs.declared.Geometry.{Geometry}
 use Rattle.stripe.proofs.parities.Statement.{statement}
 use Rattle.stripe.proofs.parities.Tie as tie
 

@@ -1,6 +1,6 @@
 -- `stripe::rebuild` meets its contract: the first three refusals, and then by the cases of the loss.
 -- Assumes nothing.
-use mathlib.Core.Path.{_≡_, sym, _∙_}
+use mathlib.Core.Path.{sym, _∙_}
 use mathlib.Core.List.{[], _∷_}
 use borrow.Author.Needs.{needs}
 use lib.ListN.{length}

@@ -1,16 +1,14 @@
 -- `stripe::rebuild_named` meets its contract: by what the codes name.
 -- Assumes nothing.
-use mathlib.Core.Path.{_≡_, refl, sym, ap, ap₂, _∙_}
-use mathlib.Core.List.{List, [], _∷_}
+use mathlib.Core.Path.{sym, ap, ap₂, _∙_}
+use mathlib.Core.List.{[], _∷_}
 use mathlib.Core.Bool.{true}
-use Prim.Native.Nat.{ℕ}
 use borrow.Author.Needs.{needs}
 use lib.ListN.{length}
 use Rattle.stripe.proofs.Refused.{first-kept, shape-passed}
-use Rattle.stripe.specs.Codes.{lossOf, namingOf, refusalOf, rebuiltBy}
+use Rattle.stripe.specs.Codes.{lossOf, refusalOf, rebuiltBy}
 use Rattle.stripe.specs.Refusals.{Refusal, refusal1, refusal2, refusal3}
 use Rattle.stripe.specs.declared.Naming.{Naming}
-use Rattle.stripe.specs.declared.Naming.the-variants.{Loss, Wrong}
 use Rattle.stripe.proofs.rebuild_named.Statement.{statement}
 use Rattle.stripe.proofs.rebuild_named.Tie as tie
 

@@ -1,13 +1,13 @@
 -- `stripe::restore_one` meets its contract. The loop's invariant: the columns below i are rebuilt. The measure is what is left of B.
 -- Assumes nothing.
-use mathlib.Core.Path.{_≡_, refl, sym, ap, ap₂, subst, _∙_}
+use mathlib.Core.Path.{_≡_, sym, ap, ap₂, subst, _∙_}
 use mathlib.Core.List.{List}
 use Prim.Native.Nat.{ℕ, _+_, _-_, _≤_, _<_}
 use native.Mathlib.Nat.{le-refl}
 use native.Mathlib.Omega.{arith}
 use Rattle.stripe.proofs.Inside.{known-role}
 use Rattle.stripe.proofs.Sweep.{Swept, sweep-none, sweep-one, sweep-all}
-use Rattle.stripe.specs.Column.{Column, put, roleOf, reedSolomon, newByte, rebuildColumn}
+use Rattle.stripe.specs.Column.{Column, put, reedSolomon, newByte, rebuildColumn}
 use Rattle.stripe.specs.Stripe.{column}
 use Rattle.stripe.specs.declared.Device.{Device}
 use Rattle.stripe.specs.declared.Geometry.{Geometry}

@@ -1,6 +1,6 @@
 -- `stripe::restore_two` meets its contract. The loop's invariant: the columns below i are rebuilt. The measure is what is left of B.
 -- Assumes nothing.
-use mathlib.Core.Path.{_≡_, refl, sym, ap, ap₂, subst, _∙_}
+use mathlib.Core.Path.{sym, ap, ap₂, subst, _∙_}
 use mathlib.Core.List.{List}
 use Prim.Native.Nat.{ℕ, _+_, _-_, _≤_, _<_}
 use native.Mathlib.Nat.{le-refl}
@@ -8,7 +8,7 @@ use native.Mathlib.Omega.{arith}
 use lib.ListN.{length, set, length-set}
 use Rattle.stripe.proofs.Inside.{known-role}
 use Rattle.stripe.proofs.Sweep.{Swept, sweep-none, sweep-pair, sweep-all}
-use Rattle.stripe.specs.Column.{Column, TwoBytes, put, roleOf, reedSolomon, newBytes, rebuildColumn}
+use Rattle.stripe.specs.Column.{Column, put, roleOf, reedSolomon, newBytes, rebuildColumn}
 use Rattle.stripe.specs.Stripe.{start, column}
 use Rattle.stripe.specs.declared.Device.{Device}
 use Rattle.stripe.specs.declared.Geometry.{Geometry}

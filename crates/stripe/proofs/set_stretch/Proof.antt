@@ -1,11 +1,11 @@
 -- `stripe::set_stretch` meets its contract: the stretch is within the stripe, and what lies around it stays.
 -- Assumes nothing.
-use mathlib.Core.Path.{_≡_, sym, ap, ap₂, _∙_}
+use mathlib.Core.Path.{ap, ap₂, _∙_}
 use mathlib.Core.List.{List, _++_}
 use Prim.Native.Nat.{ℕ, _+_, _-_, _≤_}
 use native.Mathlib.Omega.{arith}
 use borrow.Author.Needs.{needs}
-use lib.ListN.{length, take, drop}
+use lib.ListN.{length, take}
 use borrow.Rule.Slice.PartMut.{post-is}
 use Rattle.stripe.proofs.Inside.{stretch-inside}
 use Rattle.stripe.specs.Parts.{spliced}

@@ -1,6 +1,6 @@
 -- `stripe::write` meets its contract: by the order of its refusals, and then in two steps, the parities and the stretch.
 -- Assumes nothing.
-use mathlib.Core.Path.{_≡_, refl, sym, ap, _∙_}
+use mathlib.Core.Path.{refl, sym, ap, _∙_}
 use mathlib.Core.List.{List, [], _∷_}
 use Prim.Native.Nat.{ℕ, _+_, _-_, _≤_}
 use native.Mathlib.Nat.{suc-ne-zero}
@@ -12,8 +12,8 @@ use Rattle.stripe.proofs.Places.{length-lift}
 use Rattle.stripe.proofs.Refused.{first-kept, shape-passed, shape-whole, write-refused, write-done}
 use Rattle.stripe.proofs.Stretch.{write-in-two}
 use Rattle.stripe.specs.Choice.{choose}
-use Rattle.stripe.specs.Column.{Column, adjustColumn, reedSolomon}
-use Rattle.stripe.specs.Parts.{Whole, Stretch, spliced}
+use Rattle.stripe.specs.Column.{adjustColumn, reedSolomon}
+use Rattle.stripe.specs.Parts.{spliced}
 use Rattle.stripe.specs.Refusals.{refusal1, refusal2, refusal3, refusal4, refusal6}
 use Rattle.stripe.specs.Stripe.{start, covers}
 use Rattle.stripe.specs.declared.Device.the-variants.{Data}

@@ -1,6 +1,6 @@
 -- `gf256::Element::inverse` meets its contract: the exponents 254·e and 255 − e are the same modulo 255.
 -- Assumes nothing.
-use mathlib.Core.Path.{_≡_, sym, ap, _∙_}
+use mathlib.Core.Path.{sym, ap, _∙_}
 use Prim.Native.Nat.{ℕ, _-_, _%_}
 use native.Mathlib.Omega.{arith}
 use borrow.Author.Needs.{needs}

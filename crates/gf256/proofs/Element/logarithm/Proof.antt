@@ -1,7 +1,6 @@
 -- `gf256::Element::logarithm` meets its contract: the table holds the logarithms.
 -- Assumes nothing.
-use mathlib.Core.Path.{sym, subst}
-use Prim.Native.Nat.{ℕ, _<_}
+use mathlib.Core.Path.{sym}
 use native.Mathlib.Omega.{arith}
 use borrow.Author.Needs.{needs}
 use Rattle.gf256.proofs.Tables.{logarithms}

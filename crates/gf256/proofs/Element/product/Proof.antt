@@ -1,6 +1,6 @@
 -- `gf256::Element::product` meets its contract: the product of two powers of 02 is 02 to the sum of the exponents, modulo 255.
 -- Assumes nothing.
-use mathlib.Core.Path.{_≡_, sym, ap, ap₂, _∙_}
+use mathlib.Core.Path.{sym, ap, ap₂, _∙_}
 use Prim.Native.Nat.{ℕ, _+_, _%_}
 use native.Mathlib.Omega.{arith}
 use borrow.Author.Needs.{needs}

@@ -1,11 +1,10 @@
 -- `stripe::Geometry::refusal` meets its contract: each `return` rewrites by the tests that led there.
 -- Assumes nothing.
-use Prim.Native.Nat.{ℕ, _+_}
+use Prim.Native.Nat.{_+_}
 use native.Mathlib.Nat.{mul-le-mul}
 use native.Mathlib.Omega.{arith}
 use borrow.Author.Needs.{needs}
 use borrow.Author.Tests.{eq-eqb, ne-eqb, lt-ltb, le-ltb}
-use Rattle.stripe.specs.Stripe.{size}
 use Rattle.stripe.proofs.Geometry.refusal.Statement.{statement}
 use Rattle.stripe.proofs.Geometry.refusal.Tie as tie
 
