@@ -3,9 +3,12 @@
 use std::fs::File;
 use std::io::{ErrorKind, Write};
 use std::path::PathBuf;
-use std::process::{Child, Command, Stdio};
+use std::process::{Child, Command, ExitStatus, Stdio};
 use std::thread;
-use std::time::Duration;
+use std::time::{Duration, Instant};
+
+/// A program that runs longer is taken to loop.
+const LIMIT: Duration = Duration::from_secs(120);
 
 fn start(name: &str, stdin: Stdio, stdout: Stdio) -> Child {
     let path = PathBuf::from(concat!(env!("CARGO_MANIFEST_DIR"), "/../target/bin")).join(name);
@@ -18,6 +21,21 @@ fn output(name: &str, child: Child) -> Vec<u8> {
     let output = child.wait_with_output().expect("a child can be waited for");
     assert!(output.status.success(), "{name} ended with {}", output.status);
     output.stdout
+}
+
+/// Waits for a program whose output, if it goes to a pipe, fits in one; a program that loops is killed.
+fn ended(name: &str, child: &mut Child) -> ExitStatus {
+    let start = Instant::now();
+    loop {
+        if let Some(status) = child.try_wait().expect("a child can be waited for") {
+            return status;
+        }
+        if start.elapsed() > LIMIT {
+            child.kill().expect("a child can be killed");
+            panic!("{name} does not end");
+        }
+        thread::sleep(Duration::from_millis(5));
+    }
 }
 
 /// Runs the program on input that comes through a pipe in pieces, with a pause after each so that
@@ -46,11 +64,20 @@ pub fn run(name: &str, input: &[u8]) -> Vec<u8> {
 
 /// Runs the program with a file as standard input.
 pub fn run_on_file(name: &str, file: File) -> Vec<u8> {
-    output(name, start(name, file.into(), Stdio::piped()))
+    let mut child = start(name, file.into(), Stdio::piped());
+    ended(name, &mut child);
+    output(name, child)
 }
 
-/// Runs the program with its output going to a file, and says whether it ended with status 0.
-pub fn run_into_file(name: &str, input: File, file: File) -> bool {
-    let mut child = start(name, input.into(), file.into());
-    child.wait().expect("a child can be waited for").success()
+/// Runs the program with its output going to a file, and says how it ended.
+pub fn run_into_file(name: &str, input: File, file: File) -> ExitStatus {
+    ended(name, &mut start(name, input.into(), file.into()))
+}
+
+/// Runs the program with its output going to a pipe that has no reader, and says how it ended.
+pub fn run_unread(name: &str, input: &[u8]) -> ExitStatus {
+    let mut child = start(name, Stdio::piped(), Stdio::piped());
+    drop(child.stdout.take());
+    child.stdin.take().expect("standard input is piped").write_all(input).expect("a pipe takes the input");
+    ended(name, &mut child)
 }

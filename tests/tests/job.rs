@@ -2,6 +2,7 @@
 //! implementation.
 
 use std::fs::{self, File};
+use std::os::unix::process::ExitStatusExt;
 use std::path::Path;
 use std::time::Duration;
 
@@ -11,6 +12,7 @@ use outside::random::{trials, Random};
 
 const PROGRAM: &str = "shelf_job";
 const NONE: u16 = 65535;
+const SIGPIPE: i32 = 13;
 
 struct Case {
     name: String,
@@ -83,10 +85,15 @@ fn every_length_up_to_a_whole_job() {
     }
 }
 
+/// The largest job that is not refused.
+fn largest() -> Vec<u8> {
+    Header::new(ENCODE, 13, 4096, NONE, NONE).with(&Random::new(1).bytes(61440))
+}
+
 #[test]
 fn input_in_pieces() {
     let exchange = Header::new(REBUILD, 2, 1, 0, 1).with(&[0, 0, 0x81, 0x1c]);
-    let largest = Header::new(ENCODE, 13, 4096, NONE, NONE).with(&Random::new(1).bytes(61440));
+    let largest = largest();
     for (job, piece) in [(&exchange, 1), (&exchange, 5), (&largest, 1000), (&largest, 4096), (&largest, 4097), (&largest, 30727)] {
         let answer = program::run_pieces(PROGRAM, job.chunks(piece), Duration::from_millis(2));
         assert_eq!(answer, job::answer(job), "pieces of {piece} bytes");
@@ -105,7 +112,14 @@ fn a_read_that_fails() {
 fn a_write_that_fails() {
     let full = File::options().write(true).open("/dev/full").expect("a device that is always full");
     let nothing = File::open("/dev/null").expect("an empty input");
-    assert!(program::run_into_file(PROGRAM, nothing, full));
+    assert!(program::run_into_file(PROGRAM, nothing, full).success());
+}
+
+/// The signal of a closed pipe may end the program.
+#[test]
+fn a_reader_that_goes_away() {
+    let status = program::run_unread(PROGRAM, &largest());
+    assert!(status.success() || status.signal() == Some(SIGPIPE), "{status}");
 }
 
 /// A header of which the most likely damage is none.
