@@ -7,5 +7,6 @@ pub mod job;
 pub mod judge;
 pub mod program;
 pub mod random;
+pub mod shapes;
 pub mod stripe;
 pub mod table;

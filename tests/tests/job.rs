@@ -9,8 +9,11 @@ use std::time::Duration;
 use outside::job::{self, Header, CHECK, ENCODE, REBUILD};
 use outside::program;
 use outside::random::{trials, Random};
+use outside::shapes::{BLOCKS, DISKS};
 
 const PROGRAM: &str = "shelf_job";
+const P: u16 = 256;
+const Q: u16 = 257;
 const NONE: u16 = 65535;
 const SIGPIPE: i32 = 13;
 
@@ -129,7 +132,7 @@ fn random_header(random: &mut Random) -> Header {
     let b = if random.once_in(50) { random.within(1, fits) } else { random.within(1, 24.min(fits)) };
     let device = |random: &mut Random| match random.within(0, n + 2) {
         place if place < n => place as u16,
-        place => [256, 257, NONE][place - n],
+        place => [P, Q, NONE][place - n],
     };
     let command = random.pick(&[ENCODE, REBUILD, REBUILD, CHECK]);
     let (first, second) = if command == REBUILD { (device(random), device(random)) } else { (NONE, NONE) };
@@ -161,13 +164,47 @@ fn random_bytes(random: &mut Random, header: &Header) -> Vec<u8> {
     let (n, b) = (u64::from(header.n), u64::from(header.b));
     let mut stripe = random.bytes(((n + 2) * b) as usize);
     if header.command == CHECK && !random.once_in(4) {
-        assert_eq!(outside::stripe::encode(n, b, &mut stripe), 0);
-        for _ in 0..random.within(0, 3) {
-            let at = random.within(0, stripe.len() - 1);
-            stripe[at] = random.number() as u8;
-        }
+        let count = random.within(0, 3);
+        encode_and_spoil(random, n, b, &mut stripe, count);
     }
     stripe
+}
+
+/// Encodes a stripe and puts other bytes, by chance the same, at so many places.
+fn encode_and_spoil(random: &mut Random, n: u64, b: u64, stripe: &mut [u8], count: usize) {
+    assert_eq!(outside::stripe::encode(n, b, stripe), 0);
+    for _ in 0..count {
+        let at = random.within(0, stripe.len() - 1);
+        stripe[at] = random.number() as u8;
+    }
+}
+
+/// Holds the program to the independent implementation.
+fn compare(case: &str, job: &[u8]) {
+    let (got, want) = (program::run(PROGRAM, job), job::answer(job));
+    let start = |bytes: &[u8]| format!("{:02x?}", &bytes[..bytes.len().min(40)]);
+    assert!(got == want, "{case}: the job {} is answered by {}, not by {}", start(job), start(&got), start(&want));
+}
+
+/// Every shape that a job has room for.
+#[test]
+fn every_shape() {
+    let mut random = Random::new(2);
+    for n in DISKS {
+        for b in BLOCKS.into_iter().filter(|b| (n + 2) * b <= 61440) {
+            let case = format!("n {n}, b {b}");
+            let job = |command, first, second, stripe: &[u8]| Header::new(command, n as u16, b as u16, first, second).with(stripe);
+            let mut stripe = random.bytes(((n + 2) * b) as usize);
+            compare(&case, &job(ENCODE, NONE, NONE, &stripe));
+            for (first, second) in [(n as u16 - 1, NONE), (P, Q), (0, Q)] {
+                compare(&case, &job(REBUILD, first, second, &stripe));
+            }
+            for count in 0..=3 {
+                encode_and_spoil(&mut random, n, b, &mut stripe, count);
+                compare(&case, &job(CHECK, NONE, NONE, &stripe));
+            }
+        }
+    }
 }
 
 #[test]
@@ -187,6 +224,6 @@ fn ten_thousand_random_jobs() {
         if random.once_in(40) {
             job.truncate(random.within(0, 20));
         }
-        assert_eq!(program::run(PROGRAM, &job), job::answer(&job), "job {:02x?}", &job[..job.len().min(40)]);
+        compare("a random job", &job);
     });
 }

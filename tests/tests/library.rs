@@ -2,6 +2,7 @@
 //! that are accepted and calls that are refused.
 
 use outside::random::{trials, Random};
+use outside::shapes::{BLOCKS, DISKS};
 use outside::stripe::{self, NONE, P, Q};
 use outside::table::Table;
 
@@ -12,8 +13,6 @@ extern "C" {
     fn shelf_rebuild(n: u64, b: u64, stripe: *mut u8, stripe_len: usize, first: u64, second: u64) -> u8;
 }
 
-const DISKS: [u64; 9] = [1, 2, 3, 8, 13, 16, 100, 254, 255];
-const BLOCKS: [u64; 10] = [1, 2, 7, 8, 63, 64, 65, 512, 4095, 4096];
 /// Numbers that no parameter takes, and that a narrower one would cut to a valid number.
 const WIDE: [u64; 7] = [65536, 65537, 65536 + 256, (1 << 32) + 1, (1 << 32) + 2, 1 << 63, u64::MAX];
 
