@@ -156,12 +156,15 @@ fn job_result(n: u8, b: u16) -> [u8; 17] {
     job[11] = 0xff;
     job[12] = 0xff;
     job[13] = 0xff;
-    let mut out = [0u8; 61446];
-    job::answer(&job, &mut out);
-    if out[5] == 0 {
-        return *b"done             ";
+    let mut out = [0xffu8; 61446];
+    let count = job::answer(&job, &mut out);
+    if out[5] != 0 {
+        return refusal(out[5]);
     }
-    refusal(out[5])
+    if count != 61446 {
+        return *b"wrong length     ";
+    }
+    *b"done             "
 }
 
 fn two_lost() -> [u8; 17] {
