@@ -1,0 +1,80 @@
+//! Measures libshelf.a beside a plain encoder in Rust and, where it is installed, ISA-L.
+//!
+//!     bench                 the table of ratios
+//!     bench --stack         the bytes of stack that each call uses
+//!     bench --plot FILE     how the time of an encode grows with n and B, as SVG
+
+mod isal;
+mod measure;
+mod plain;
+mod plot;
+mod shelf;
+mod stack;
+mod table;
+
+use isal::Isal;
+use outside::random::Random;
+use outside::stripe::{self, NONE, P, Q};
+use shelf::Stripe;
+
+fn main() {
+    let words: Vec<String> = std::env::args().skip(1).collect();
+    match words.iter().map(String::as_str).collect::<Vec<_>>()[..] {
+        [] => table::print(Isal::find()),
+        ["--stack"] => stack::print(),
+        ["--plot", file] => std::fs::write(file, plot::svg()).unwrap_or_else(|e| panic!("{file}: {e}")),
+        _ => {
+            eprintln!("usage: bench [--stack | --plot FILE]");
+            std::process::exit(2);
+        }
+    }
+}
+
+/// The name that the processor gives itself.
+fn processor() -> String {
+    let text = std::fs::read_to_string("/proc/cpuinfo").unwrap_or_default();
+    let name = text.lines().find_map(|line| line.strip_prefix("model name")?.split_once(": "));
+    name.map_or("an unknown processor", |(_, name)| name).to_string()
+}
+
+/// Two data disks of a stripe of two or more, neither of them an end where there are others.
+fn two_disks(n: usize) -> (u64, u64) {
+    let first = n / 3;
+    (first as u64, (2 * n / 3).max(first + 1) as u64)
+}
+
+/// Holds every contestant to the independent implementation, and leaves the stripe encoded.
+fn verify(random: &mut Random, mut stripe: Stripe, isal: Option<&isal::Call>) {
+    let (n, b) = (stripe.n as u64, stripe.b as u64);
+    let mut expected = stripe.bytes().to_vec();
+    assert_eq!(stripe::encode(n, b, &mut expected), 0);
+    let mut same = |stripe: &mut Stripe, what: &str, expected: &[u8]| {
+        assert!(stripe.bytes() == expected, "{what} is wrong; n {n}, B {b}");
+        let at = stripe.data();
+        let noise = random.bytes(2 * stripe.b);
+        stripe.bytes()[at..].copy_from_slice(&noise);
+    };
+    plain::encode(stripe.n, stripe.b, stripe.bytes());
+    same(&mut stripe, "the plain encoder", &expected);
+    if let Some(call) = isal {
+        call.encode();
+        assert!(call.finds_clean(), "ISA-L's check refuses its own encoding; n {n}, B {b}");
+        same(&mut stripe, "ISA-L's encoder", &expected);
+        assert!(!call.finds_clean(), "ISA-L's check takes any parities; n {n}, B {b}");
+    }
+    stripe.encode();
+    same(&mut stripe, "encode", &expected);
+    for (first, second) in [two_disks(stripe.n), (two_disks(stripe.n).0, NONE), (P, NONE), (Q, NONE)] {
+        let mut wanted = stripe.bytes().to_vec();
+        // a stripe of one data disk can't lose two
+        if stripe::rebuild(n, b, &mut wanted, first, second) == 0 {
+            stripe.rebuild(first, second);
+            assert!(stripe.bytes() == wanted, "rebuild of {first} and {second} is wrong; n {n}, B {b}");
+        }
+        stripe.bytes().copy_from_slice(&expected);
+    }
+    let bytes = random.bytes(stripe.b);
+    assert_eq!(stripe::write(n, b, &mut expected, 0, 0, &bytes), 0);
+    stripe.write(0, &bytes);
+    assert!(stripe.bytes() == expected, "write is wrong; n {n}, B {b}");
+}

@@ -1,0 +1,40 @@
+//! The clock: best of several runs, the contestants taking turns.
+
+use std::time::Instant;
+
+/// Turns of each contestant.
+pub const TURNS: usize = 200;
+/// A turn lasts about as long as this, in seconds.
+pub const TURN: f64 = 0.002;
+
+fn time(call: &dyn Fn(), count: usize) -> f64 {
+    let start = Instant::now();
+    for _ in 0..count {
+        call();
+    }
+    start.elapsed().as_secs_f64()
+}
+
+/// How many calls fill a turn.
+fn calls(call: &dyn Fn()) -> usize {
+    let mut count = 1;
+    loop {
+        let taken = time(call, count);
+        if taken >= TURN / 4.0 {
+            return ((count as f64 * TURN / taken) as usize).max(1);
+        }
+        count *= 2;
+    }
+}
+
+/// Seconds that each takes, in its best turn.
+pub fn best(turns: usize, contestants: &[&dyn Fn()]) -> Vec<f64> {
+    let counts: Vec<usize> = contestants.iter().map(|call| calls(*call)).collect();
+    let mut best = vec![f64::INFINITY; contestants.len()];
+    for _ in 0..turns {
+        for (i, call) in contestants.iter().enumerate() {
+            best[i] = best[i].min(time(call, counts[i]) / counts[i] as f64);
+        }
+    }
+    best
+}

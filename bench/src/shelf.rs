@@ -1,0 +1,65 @@
+//! Calls of libshelf.a on a stripe that stays in one place, so that each contestant works on the same
+//! bytes.
+
+use outside::random::Random;
+use std::alloc::{alloc_zeroed, Layout};
+
+/// The largest block.
+pub const BLOCK: usize = 4096;
+const PAGE: usize = 4096;
+
+#[link(name = "shelf", kind = "static")]
+extern "C" {
+    pub fn shelf_encode(n: u64, b: u64, stripe: *mut u8, stripe_len: usize) -> u8;
+    pub fn shelf_write(n: u64, b: u64, stripe: *mut u8, stripe_len: usize, disk: u64, offset: u64, bytes: *const u8, count: usize) -> u8;
+    pub fn shelf_rebuild(n: u64, b: u64, stripe: *mut u8, stripe_len: usize, first: u64, second: u64) -> u8;
+}
+
+/// A stripe by its pointer: calls through it may follow one another in any order.
+#[derive(Clone, Copy)]
+pub struct Stripe {
+    pub n: usize,
+    pub b: usize,
+    pub start: *mut u8,
+}
+
+impl Stripe {
+    /// Random bytes that begin on a page, in memory that is never given back.
+    pub fn random(random: &mut Random, n: usize, b: usize) -> Stripe {
+        let layout = Layout::from_size_align((n + 2) * b, PAGE).expect("a stripe is small");
+        let mut stripe = Stripe { n, b, start: unsafe { alloc_zeroed(layout) } };
+        assert!(!stripe.start.is_null(), "no memory for a stripe");
+        let bytes = random.bytes(stripe.length());
+        stripe.bytes().copy_from_slice(&bytes);
+        stripe
+    }
+
+    pub fn length(&self) -> usize {
+        (self.n + 2) * self.b
+    }
+
+    pub fn data(&self) -> usize {
+        self.n * self.b
+    }
+
+    pub fn bytes(&mut self) -> &mut [u8] {
+        unsafe { std::slice::from_raw_parts_mut(self.start, self.length()) }
+    }
+
+    fn done(&self, result: u8) {
+        assert_eq!(result, 0, "refused; n {}, B {}", self.n, self.b);
+    }
+
+    pub fn encode(&self) {
+        self.done(unsafe { shelf_encode(self.n as u64, self.b as u64, self.start, self.length()) });
+    }
+
+    pub fn rebuild(&self, first: u64, second: u64) {
+        self.done(unsafe { shelf_rebuild(self.n as u64, self.b as u64, self.start, self.length(), first, second) });
+    }
+
+    pub fn write(&self, disk: u64, bytes: &[u8]) {
+        let (n, b) = (self.n as u64, self.b as u64);
+        self.done(unsafe { shelf_write(n, b, self.start, self.length(), disk, 0, bytes.as_ptr(), bytes.len()) });
+    }
+}

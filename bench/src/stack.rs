@@ -1,0 +1,69 @@
+//! How much stack a call uses: it runs on a painted stack of its own, and what it wrote to is counted.
+
+use crate::shelf::{shelf_encode, shelf_rebuild, shelf_write, Stripe};
+use outside::random::Random;
+use outside::stripe::{NONE, P, Q};
+use std::arch::asm;
+
+const ROOM: usize = 1 << 16;
+
+#[repr(align(16))]
+struct Room([u8; ROOM]);
+
+/// Calls a function of C with eight numbers: six in registers and two at the top of the stack. Returns
+/// the bytes of stack that it wrote to below them, its return address among them.
+fn used(function: usize, arguments: [u64; 8], paint: u8) -> usize {
+    let mut room = Box::new(Room([paint; ROOM]));
+    let top = ROOM - 16;
+    room.0[top..top + 8].copy_from_slice(&arguments[6].to_ne_bytes());
+    room.0[top + 8..].copy_from_slice(&arguments[7].to_ne_bytes());
+    let result: u64;
+    unsafe {
+        asm!(
+            "xchg rsp, r12",
+            "call rax",
+            "mov rsp, r12",
+            inout("r12") room.0.as_mut_ptr().add(top) => _,
+            inout("rax") function as u64 => result,
+            in("rdi") arguments[0], in("rsi") arguments[1], in("rdx") arguments[2],
+            in("rcx") arguments[3], in("r8") arguments[4], in("r9") arguments[5],
+            clobber_abi("C"),
+        );
+    }
+    assert_eq!(result as u8, 0, "refused");
+    top - room.0.iter().position(|&byte| byte != paint).expect("a call writes its return address")
+}
+
+/// The most over two paints and some shapes.
+fn most(calls: impl Fn(Stripe) -> Vec<(usize, [u64; 8])>) -> usize {
+    let mut random = Random::new(2);
+    let mut most = 0;
+    for (n, b) in [(1, 1), (2, 7), (8, 4096), (255, 4096)] {
+        for (function, arguments) in calls(Stripe::random(&mut random, n, b)) {
+            most = [0x5a, 0xc3].map(|paint| used(function, arguments, paint)).into_iter().fold(most, usize::max);
+        }
+    }
+    most
+}
+
+pub fn print() {
+    let head = |stripe: Stripe| [stripe.n as u64, stripe.b as u64, stripe.start as u64, stripe.length() as u64];
+    let call = |stripe: Stripe, rest: [u64; 4]| {
+        let [n, b, start, length] = head(stripe);
+        [n, b, start, length, rest[0], rest[1], rest[2], rest[3]]
+    };
+    let bytes = Random::new(3).bytes(4096);
+    let encode = most(|stripe| vec![(shelf_encode as *const () as usize, call(stripe, [0; 4]))]);
+    let write = most(|stripe| vec![(shelf_write as *const () as usize, call(stripe, [0, 0, bytes.as_ptr() as u64, stripe.b as u64]))]);
+    let rebuild = most(|stripe| {
+        let devices = [0, stripe.n as u64 - 1, P, Q];
+        let pairs = devices.into_iter().flat_map(|first| devices.into_iter().chain([NONE]).map(move |second| (first, second)));
+        let pairs = pairs.filter(|(first, second)| first != second);
+        pairs.map(|(first, second)| (shelf_rebuild as *const () as usize, call(stripe, [first, second, 0, 0]))).collect()
+    });
+    println!("| call | bytes of stack |");
+    println!("|---|---|");
+    for (name, most) in [("shelf_encode", encode), ("shelf_write", write), ("shelf_rebuild", rebuild)] {
+        println!("| `{name}` | {most} |");
+    }
+}
