@@ -1,6 +1,6 @@
 # `make` alone answers the first job.
 .DEFAULT_GOAL = example
-.PHONY: example test toolchain lib job install uninstall
+.PHONY: example test toolchain lib job bench install uninstall
 # One rt at a time: they share target/.
 .NOTPARALLEL:
 
@@ -22,6 +22,10 @@ job: toolchain
 # A first job: two lost data disks come back from P and Q.
 example: job
 	@printf 'SRJ\0\1\2\0\2\0\1\0\0\0\1\0\0\201\34' | target/bin/shelf_job | od -An -tx1
+
+# How fast the library is, beside a plain encoder in Rust and, where it is installed, ISA-L. It installs nothing.
+bench: lib
+	cd bench && cargo run --quiet --release --offline --locked
 
 # Where installed files go. DESTDIR, if given, stands before PREFIX for a staged copy, and no file mentions it.
 VERSION = 0.1.0
