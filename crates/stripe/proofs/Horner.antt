@@ -5,7 +5,7 @@ use Prim.Native.Nat.{ℕ, suc, _+_, _-_, _≤_, _<_}
 use native.Mathlib.Nat.{zero-add, add-zero, sub-self, sub-zero}
 use native.Mathlib.Omega.{arith}
 use Rattle.gf256.specs.Field.{sum, double, product, power}
-use Rattle.gf256.proofs.Laws.{product-lt, product-right, product-assoc, product-one, product-zero, double-product}
+use Rattle.gf256.proofs.Laws.{zero-sum, product-lt, product-right, product-assoc, product-one, product-zero, double-product}
 use Rattle.stripe.specs.Column.{total}
 use Rattle.stripe.proofs.Total.{total-same, total-map, total-front, total-lt}
 
@@ -52,3 +52,15 @@ tailQ-more n k f h byte =
 
     start : power 2 0 ≡ 1
     start = unfold power in refl
+
+-- the sums begin at the last disk
+pub tailP-last : (n k : ℕ) (f : ℕ → ℕ) → suc k ≡ n → tailP n k f ≡ f k
+tailP-last n k f e =
+    tailP-more n k f (omega arith) ∙ ap (λ (s : ℕ). sum s (f k)) (ap (λ (m : ℕ). tailP n m f) e ∙ tail-none (λ j x. x) n f) ∙ zero-sum (f k)
+
+pub tailQ-last : (n k : ℕ) (f : ℕ → ℕ) → suc k ≡ n → f k < 256 → tailQ n k f ≡ f k
+unfolding double
+tailQ-last n k f e byte =
+    tailQ-more n k f (omega arith) byte
+    ∙ ap (λ (s : ℕ). sum (double s) (f k)) (ap (λ (m : ℕ). tailQ n m f) e ∙ tail-none (λ j x. product (power 2 j) x) n f)
+    ∙ zero-sum (f k)

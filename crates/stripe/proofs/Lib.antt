@@ -8,3 +8,6 @@ pub mod Inside
 pub mod Refused
 pub mod Summary
 pub mod Stretch
+pub mod Passed
+pub mod Solved
+pub mod Filled

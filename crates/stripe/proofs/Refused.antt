@@ -67,6 +67,7 @@ module _ (g : Geometry) (len : ℕ) (e : encodeRefusal g len ≡ 0) where
         disks = ltb-false 255 (g .n) (n .1);
         block = ltb-false 4096 (g .b) (b .1);
         some = pos-of-ne-zero (eqb-false (g .b) 0 (b .0));
+        disk = pos-of-ne-zero (eqb-false (g .n) 0 (n .0));
         whole = l ∙ eqb-true len (size g) (not-false (eqb len (size g)) (untaken .2));
       }
 

@@ -38,13 +38,13 @@ module _ (l : List ℕ) (a : ℕ) (m : List ℕ) (fits : a + length m ≤ length
   pub length-spliced : length (spliced l a m) ≡ length l
   length-spliced = simp (length-append, length-take, length-drop) (omega arith)
 
-  spliced-in : (p : ℕ) → p < length m → getD (spliced l a m) (a + p) 0 ≡ getD m p 0
+  pub spliced-in : (p : ℕ) → p < length m → getD (spliced l a m) (a + p) 0 ≡ getD m p 0
   spliced-in p h =
       ap (λ (n : ℕ). getD (spliced l a m) (n + p) 0) (sym front)
       ∙ getD-append-add (take a l) (m ++ drop (a + length m) l) p 0
       ∙ List·getD-append m (drop (a + length m) l) 0 p h
 
-  spliced-low : (p : ℕ) → p < a → getD (spliced l a m) p 0 ≡ getD l p 0
+  pub spliced-low : (p : ℕ) → p < a → getD (spliced l a m) p 0 ≡ getD l p 0
   spliced-low p h =
       List·getD-append (take a l) (m ++ drop (a + length m) l) 0 p (subst (λ (n : ℕ). p < n) (sym front) h) ∙ getD-take a l p 0 h
 
@@ -125,7 +125,7 @@ write-in-two g s disk offset new whole stretch =
     len = length-lift g adjust-rule s ∙ whole .whole
 
     whole′ : Whole g t
-    whole′ = record { disks = whole .disks; block = whole .block; some = whole .some; whole = len }
+    whole′ = record { disks = whole .disks; block = whole .block; some = whole .some; disk = whole .disk; whole = len }
 
     inside : start g disk + offset + length new ≤ length t
     inside = stretch-inside g t disk offset (length new) (start g disk) whole′ stretch refl

@@ -1,16 +1,21 @@
 -- A loop that goes through the columns in order: those passed are new, the others old. Within a turn the column in hand is changed by
 -- stores. Five laws serve every such loop: none passed, a column taken in hand, a store in it, one more passed, and all.
 -- Assumes nothing.
-use mathlib.Core.Path.{_≡_, refl, sym, ap, _∙_}
+use mathlib.Core.Path.{_≡_, refl, sym, ap, subst, _∙_}
 use mathlib.Core.Logic.{_⊎_, inl, inr, ⊎-elim}
+use mathlib.Core.Bool.{Bool, true, false}
 use mathlib.Core.List.{List}
 use Prim.Native.Nat.{ℕ, _+_, _≤_, _<_}
 use native.Mathlib.Nat.{not-suc-le-zero, le-refl, eq-or-lt-of-le}
 use native.Mathlib.Omega.{arith}
 use native.Mathlib.Decide.{decLt}
+use borrow.Author.Tests.{lt-ltb, le-ltb}
+use lib.Dec.{ltb}
 use lib.ListN.{length, set, length-set}
 use Rattle.stripe.specs.declared.Geometry.{Geometry}
+use Rattle.stripe.specs.Choice.{choose}
 use Rattle.stripe.specs.Column.{Column, put}
+use Rattle.stripe.specs.Parts.{putRole}
 use Rattle.stripe.specs.Stripe.{start, size, column, lift}
 use Rattle.stripe.proofs.Places.{stored-here, stored-elsewhere, length-lift, lift-at, by-columns}
 
@@ -20,6 +25,10 @@ below-or-not i k = go (decLt i k)
     go : Dec (i < k) → (i < k) ⊎ (k ≤ i)
     go (yes p) = inl p
     go (no p) = inr (omega arith)
+
+pub length-role : (b : Bool) (t : List ℕ) (k v : ℕ) → length (choose b (set t k v) t) ≡ length t
+length-role true t k v = length-set t k v
+length-role false t k v = refl
 
 -- the columns below k are passed
 pub record Swept (g : Geometry) (f : ℕ → Column → Column) (s t : List ℕ) (k : ℕ) : Type 0 where
@@ -75,15 +84,13 @@ module _ (g : Geometry) (f : ℕ → Column → Column) (s : List ℕ) where
       at-or-below : (i : ℕ) → i ≤ k → (i ≡ k) ⊎ (i < k)
       at-or-below i h = eq-or-lt-of-le h
 
-  -- a turn of one store, and one of two
-  pub sweep-one : (t : List ℕ) (k d v : ℕ) → Swept g f s t k → k < g .b → length s ≡ size g → d < g .n + 2
-      → put d v (column g s k) ≡ f k (column g s k)
-      → Swept g f s (set t (start g d + k) v) (k + 1)
-  sweep-one t k d v swept h len hd e =
-      sweep-pass (set t (start g d + k) v) k (put d v (column g s k))
-      (sweep-store t k (column g s k) d v (sweep-take t k swept h) len hd)
-      e
+  -- a store at a role that the stripe may not have
+  sweep-store-role : (t : List ℕ) (k : ℕ) (c : Column) (d v : ℕ) → InHand g f s t k c → length s ≡ size g
+      → InHand g f s (choose (ltb d (g .n + 2)) (set t (start g d + k) v) t) k (putRole (g .n) d v c)
+  sweep-store-role t k c d v hand len =
+      ⊎-elim (λ p. rw (lt-ltb d (g .n + 2) p) (sweep-store t k c d v hand len p)) (λ p. rw (le-ltb d (g .n + 2) p) hand) (below-or-not d (g .n + 2))
 
+  -- a turn of two stores
   pub sweep-pair : (t : List ℕ) (k d v e w : ℕ) → Swept g f s t k → k < g .b → length s ≡ size g → d < g .n + 2 → e < g .n + 2
       → put e w (put d v (column g s k)) ≡ f k (column g s k)
       → Swept g f s (set (set t (start g d + k) v) (start g e + k) w) (k + 1)
@@ -93,6 +100,18 @@ module _ (g : Geometry) (f : ℕ → Column → Column) (s : List ℕ) where
       (sweep-store t k (column g s k) d v (sweep-take t k swept h) len hd)
       len
       he)
+      eq
+
+  pub sweep-roles : (t : List ℕ) (k d v e w : ℕ) → Swept g f s t k → k < g .b → length s ≡ size g
+      → putRole (g .n) e w (putRole (g .n) d v (column g s k)) ≡ f k (column g s k)
+      → (u : List ℕ)
+      → u ≡ choose (ltb d (g .n + 2)) (set t (start g d + k) v) t
+      → Swept g f s (choose (ltb e (g .n + 2)) (set u (start g e + k) w) u) (k + 1)
+  sweep-roles t k d v e w swept h len eq u is =
+      sweep-pass (choose (ltb e (g .n + 2)) (set u (start g e + k) w) u) k (putRole (g .n) e w (putRole (g .n) d v (column g s k)))
+      (sweep-store-role u k (putRole (g .n) d v (column g s k)) e w
+      (subst (λ (l : List ℕ). InHand g f s l k (putRole (g .n) d v (column g s k))) (sym is) (sweep-store-role t k (column g s k) d v (sweep-take t k swept h) len))
+      len)
       eq
 
   -- up to k: the rule changes no column from there on

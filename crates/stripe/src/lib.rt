@@ -4,15 +4,16 @@
 use gf256::Element;
 ghost use mathlib.Core.Path.{_≡_};
 ghost use Prim.Native.Nat.{_+_, _<_, _≤_};
-ghost use lib.Dec.{eqb};
-ghost use lib.ListN.{length, set};
-ghost use Rattle.stripe.specs.Column.{put, roleOf, coefficientA, coefficientB, reedSolomon, newByte, newBytes, fromP, dataAndP, dataAndQ, twoData, verdict, verdictOf};
-ghost use Rattle.stripe.specs.Stripe.{start, column, rebuilt, verdicts, summary};
-ghost use Rattle.stripe.specs.Parts.{Whole, Sound, Stretch, adjusted, spliced, Changed, Known, Parities, Fills};
+ghost use Rattle.gf256.specs.Field.{sum, power};
+ghost use lib.Dec.{eqb, ltb};
+ghost use lib.ListN.{length, set, getD};
+ghost use Rattle.stripe.specs.Column.{put, roleOf, coefficientA, coefficientB, reedSolomon, parityP, parityQ, syndromeP, syndromeQ, adjustColumn, verdict, verdictOf};
+ghost use Rattle.stripe.specs.Stripe.{start, column, lift, rebuilt, verdicts, summary};
+ghost use Rattle.stripe.specs.Parts.{Whole, Sound, Stretch, adjusted, spliced, Changed, Known, Parities, Fills, Chunk, Passed, putRole, emptied, without, solution, solved};
 ghost use Rattle.stripe.specs.Refusals.{encodeRefusal, unknown};
 ghost use Rattle.stripe.specs.Calls.{EncodeCall, WriteCall, RebuildCall, CheckCall};
 ghost use Rattle.stripe.specs.Codes.{namedBy, lossOf, RebuildNamedCall};
-ghost use Rattle.stripe.specs.Choice.{choose};
+ghost use Rattle.stripe.specs.Choice.{choose, tabulate};
 
 pub struct Geometry {
     pub n: usize,
@@ -51,6 +52,19 @@ pub enum Checked {
 
 // Two bytes of one column.
 struct Pair(u8, u8);
+
+// Both sums of a chunk, which is 64 columns: place j is column i + j of a chunk that begins at i.
+struct Sums {
+    p: [u8; 64],
+    q: [u8; 64],
+}
+
+// How the bytes of two lost roles come from the two sums over the others: as they are, or the first
+// by two coefficients and the second as the rest of the first sum.
+enum Rule {
+    Plain,
+    Mixed(u8, u8),
+}
 
 // Sets P and Q. Data stay.
 pub fn encode(g: Geometry, stripe: &mut [u8]) -> u8
@@ -110,10 +124,15 @@ fn copy(to: &mut [u8], from: &[u8])
 
 // P and Q of the columns that a write covers.
 fn adjust(g: Geometry, stripe: &mut [u8], disk: usize, offset: usize, new: &[u8])
-    requires { ⌜ Whole g (now stripe) × Stretch g disk offset (length (now new)) ⌝ }
+    requires { ⌜ Whole g (now stripe) × Stretch g disk offset (length (now new)) × (disk < g .n) ⌝ }
     ensures { λ _. ⌜ now (stripe .exit) ≡ adjusted g disk offset (now (new .entry)) (now (stripe .entry)) ⌝ }
 {
+    let c = Element(2).power(disk as u64);
     let mut j = 0;
+    while 64 <= new.len() - j {
+        adjust_chunk(g, stripe, disk, offset + j, c.0, &new[j..j + 64]);
+        j += 64;
+    }
     while j < new.len() {
         let i = offset + j;
         let parity = changed(g, stripe, i, disk, new[j]);
@@ -121,6 +140,21 @@ fn adjust(g: Geometry, stripe: &mut [u8], disk: usize, offset: usize, new: &[u8]
         store(g, stripe, i, g.n, parity.0);
         j += 1;
     }
+}
+
+// P and Q of 64 columns.
+fn adjust_chunk(g: Geometry, stripe: &mut [u8], disk: usize, i: usize, c: u8, new: &[u8])
+    requires { ⌜ Whole g (now stripe) × (i + 64 ≤ g .b) × (disk < g .n) × (c ≡ power 2 disk) × (length (now new) ≡ 64) ⌝ }
+    ensures { λ _. ⌜ Passed g i (λ j col. adjustColumn reedSolomon (g .n) disk (getD (now (new .entry)) j 0) col) (now (stripe .entry)) (now (stripe .exit)) ⌝ }
+{
+    let mut change = load(g, stripe, i, disk);
+    let d = chunk_of(new);
+    chunk::add(&mut change, &d);
+    let mut p = load(g, stripe, i, g.n);
+    chunk::add(&mut p, &change);
+    let mut q = load(g, stripe, i, g.n + 1);
+    chunk::add_product(&mut q, c, change);
+    set_roles(g, stripe, i, g.n, g.n + 1, p, q);
 }
 
 // P and Q of column i after data disk `disk` gets a new byte there.
@@ -242,6 +276,10 @@ fn judge_columns(g: Geometry, stripe: &[u8], room: &mut [u16]) -> u16
 {
     let mut found = 0;
     let mut i = 0;
+    while 64 <= g.b - i {
+        found = first_nonzero(found, judge_chunk(g, stripe, i, &mut room[i..i + 64]));
+        i += 64;
+    }
     while i < g.b {
         let verdict = judge_column(g, stripe, i);
         room[i] = verdict;
@@ -257,12 +295,57 @@ fn first_nonzero(a: u16, b: u16) -> u16
     if a == 0 { b } else { a }
 }
 
+// The verdicts on 64 columns, and the first that isn't 0. A chunk without differences, the common
+// case, is told by one test.
+fn judge_chunk(g: Geometry, stripe: &[u8], i: usize, room: &mut [u16]) -> u16
+    requires { ⌜ Whole g (now stripe) × (i + 64 ≤ g .b) × (length (now room) ≡ 64) ⌝ }
+    ensures { λ r. ⌜ (r ≡ summary (tabulate 64 (λ j. verdict (g .n) (column g (now (stripe .entry)) (i + j))))) × (now (room .exit) ≡ tabulate 64 (λ j. verdict (g .n) (column g (now (stripe .entry)) (i + j)))) ⌝ }
+{
+    let s = chunk_parities(g, stripe, i);
+    let mut p = s.p;
+    let mut q = s.q;
+    let d = load(g, stripe, i, g.n);
+    chunk::add(&mut p, &d);
+    let d = load(g, stripe, i, g.n + 1);
+    chunk::add(&mut q, &d);
+    if chunk::are_zero(&p, &q) {
+        fill_zero(room);
+        return 0;
+    }
+    judge_places(g.n, &p, &q, room)
+}
+
+fn fill_zero(room: &mut [u16])
+    ensures { λ _. ⌜ now (room .exit) ≡ tabulate (length (now (room .entry))) (λ j. 0) ⌝ }
+{
+    let mut j = 0;
+    while j < room.len() {
+        room[j] = 0;
+        j += 1;
+    }
+}
+
+fn judge_places(n: usize, p: &[u8; 64], q: &[u8; 64], room: &mut [u16]) -> u16
+    requires { ⌜ (n ≤ 255) × (length (now room) ≡ 64) ⌝ }
+    ensures { λ r. ⌜ (r ≡ summary (tabulate 64 (λ j. verdictOf n (getD (now (p .entry)) j 0) (getD (now (q .entry)) j 0)))) × (now (room .exit) ≡ tabulate 64 (λ j. verdictOf n (getD (now (p .entry)) j 0) (getD (now (q .entry)) j 0))) ⌝ }
+{
+    let mut found = 0;
+    let mut j = 0;
+    while j < 64 {
+        let verdict = judge(n, Element(p[j]), Element(q[j]));
+        room[j] = verdict;
+        found = first_nonzero(found, verdict);
+        j += 1;
+    }
+    found
+}
+
 // The four rows of the paper's table, and equation 27.
 fn judge_column(g: Geometry, stripe: &[u8], i: usize) -> u16
     requires { ⌜ Sound g (now stripe) i ⌝ }
     ensures { λ r. ⌜ r ≡ verdict (g .n) (column g (now (stripe .entry)) i) ⌝ }
 {
-    let now = p_and_q(g, stripe, i);
+    let now = parities(g, stripe, i, g.n, g.n);
     let p = byte(g, stripe, i, g.n).sum(Element(now.0));
     let q = byte(g, stripe, i, g.n + 1).sum(Element(now.1));
     judge(g.n, p, q)
@@ -389,52 +472,67 @@ fn parities(g: Geometry, stripe: &[u8], i: usize, x: usize, y: usize) -> Pair
     Pair(p.0, q.0)
 }
 
-// ---- the rows of the table of losses, in one column
+// ---- the rows of the table of losses
 
-fn one_data(g: Geometry, stripe: &[u8], i: usize, x: usize) -> u8
-    requires { ⌜ Sound g (now stripe) i ⌝ }
-    ensures { λ r. ⌜ r ≡ fromP (g .n) x (column g (now (stripe .entry)) i) ⌝ }
+fn restore_one(g: Geometry, stripe: &mut [u8], lost: Device)
+    requires { ⌜ Whole g (now stripe) × Known (g .n) lost ⌝ }
+    ensures { λ _. ⌜ now (stripe .exit) ≡ rebuilt g (Lost.One lost) (now (stripe .entry)) ⌝ }
 {
-    let rest = parities(g, stripe, i, x, x);
-    let d = byte(g, stripe, i, g.n).sum(Element(rest.0));
-    d.0
+    match lost {
+        Device::Data(x) => restore(g, stripe, x, g.n + 2, Rule::Plain),
+        Device::P => restore(g, stripe, g.n, g.n + 2, Rule::Plain),
+        Device::Q => restore(g, stripe, g.n + 2, g.n + 1, Rule::Plain),
+    }
 }
 
-// Equation 5, then equation 1.
-fn data_and_p(g: Geometry, stripe: &[u8], i: usize, x: usize) -> Pair
-    requires { ⌜ Sound g (now stripe) i × (x < g .n) ⌝ }
-    ensures { λ r. ⌜ Fills (dataAndP reedSolomon (g .n) x (column g (now (stripe .entry)) i)) (r .0) (r .1) ⌝ }
+fn restore_two(g: Geometry, stripe: &mut [u8], first: Device, second: Device)
+    requires { ⌜ Whole g (now stripe) × Known (g .n) first × Known (g .n) second ⌝ }
+    ensures { λ _. ⌜ now (stripe .exit) ≡ rebuilt g (Lost.Two first second) (now (stripe .entry)) ⌝ }
 {
-    let rest = parities(g, stripe, i, x, x);
-    let q = byte(g, stripe, i, g.n + 1).sum(Element(rest.1));
-    let d = Element(2).power(x as u64).inverse().product(q);
-    let p = Element(rest.0).sum(d);
-    Pair(d.0, p.0)
-}
-
-// Equation 1, then equation 2.
-fn data_and_q(g: Geometry, stripe: &[u8], i: usize, x: usize) -> Pair
-    requires { ⌜ Sound g (now stripe) i × (x < g .n) ⌝ }
-    ensures { λ r. ⌜ Fills (dataAndQ reedSolomon (g .n) x (column g (now (stripe .entry)) i)) (r .0) (r .1) ⌝ }
-{
-    let rest = parities(g, stripe, i, x, x);
-    let d = byte(g, stripe, i, g.n).sum(Element(rest.0));
-    let q = Element(rest.1).sum(Element(2).power(x as u64).product(d));
-    Pair(d.0, q.0)
+    match first {
+        Device::Data(x) => match second {
+            Device::Data(y) => two_data(g, stripe, x, y),
+            Device::P => data_and_p(g, stripe, x),
+            Device::Q => data_and_q(g, stripe, x),
+        },
+        Device::P => match second {
+            Device::Data(x) => data_and_p(g, stripe, x),
+            Device::P => restore_one(g, stripe, Device::P),
+            Device::Q => restore(g, stripe, g.n, g.n + 1, Rule::Plain),
+        },
+        Device::Q => match second {
+            Device::Data(x) => data_and_q(g, stripe, x),
+            Device::P => restore(g, stripe, g.n, g.n + 1, Rule::Plain),
+            Device::Q => restore_one(g, stripe, Device::Q),
+        },
+    }
 }
 
 // Equations 17 to 20.
-fn two_data(g: Geometry, stripe: &[u8], i: usize, x: usize, y: usize) -> Pair
-    requires { ⌜ Sound g (now stripe) i ⌝ }
-    ensures { λ r. ⌜ Fills (twoData reedSolomon (g .n) x y (column g (now (stripe .entry)) i)) (r .0) (r .1) ⌝ }
+fn two_data(g: Geometry, stripe: &mut [u8], x: usize, y: usize)
+    requires { ⌜ Whole g (now stripe) × (x < g .n) × (y < g .n) ⌝ }
+    ensures { λ _. ⌜ now (stripe .exit) ≡ rebuilt g (Lost.Two (Device.Data x) (Device.Data y)) (now (stripe .entry)) ⌝ }
 {
-    let rest = parities(g, stripe, i, x, y);
-    let p = byte(g, stripe, i, g.n).sum(Element(rest.0));
-    let q = byte(g, stripe, i, g.n + 1).sum(Element(rest.1));
     let c = coefficients(x, y);
-    let d = Element(c.0).product(p).sum(Element(c.1).product(q));
-    let e = p.sum(d);
-    Pair(d.0, e.0)
+    restore(g, stripe, x, y, Rule::Mixed(c.0, c.1));
+}
+
+// Equation 5, then equation 1.
+fn data_and_p(g: Geometry, stripe: &mut [u8], x: usize)
+    requires { ⌜ Whole g (now stripe) × (x < g .n) ⌝ }
+    ensures { λ _. ⌜ now (stripe .exit) ≡ rebuilt g (Lost.Two (Device.Data x) Device.P) (now (stripe .entry)) ⌝ }
+{
+    let c = Element(2).power(x as u64).inverse();
+    restore(g, stripe, x, g.n, Rule::Mixed(0, c.0));
+}
+
+// Equation 1, then equation 2.
+fn data_and_q(g: Geometry, stripe: &mut [u8], x: usize)
+    requires { ⌜ Whole g (now stripe) × (x < g .n) ⌝ }
+    ensures { λ _. ⌜ now (stripe .exit) ≡ rebuilt g (Lost.Two (Device.Data x) Device.Q) (now (stripe .entry)) ⌝ }
+{
+    restore_one(g, stripe, Device::Data(x));
+    restore_one(g, stripe, Device::Q);
 }
 
 // A and B of equations 17 and 18.
@@ -449,88 +547,201 @@ fn coefficients(x: usize, y: usize) -> Pair
     Pair(a.0, b.0)
 }
 
-fn exchange(p: Pair) -> Pair
-    ensures { λ r. ⌜ (r .0 ≡ p .1) × (r .1 ≡ p .0) ⌝ }
-{
-    Pair(p.1, p.0)
-}
-
-// The new byte of one lost device.
-fn one(g: Geometry, stripe: &[u8], i: usize, lost: Device) -> u8
-    requires { ⌜ Sound g (now stripe) i ⌝ }
-    ensures { λ r. ⌜ r ≡ newByte reedSolomon (g .n) lost (column g (now (stripe .entry)) i) ⌝ }
-{
-    match lost {
-        Device::Data(x) => one_data(g, stripe, i, x),
-        Device::P => p_and_q(g, stripe, i).0,
-        Device::Q => p_and_q(g, stripe, i).1,
-    }
-}
-
-// The new bytes of two lost devices, in the order of their names.
-fn two(g: Geometry, stripe: &[u8], i: usize, first: Device, second: Device) -> Pair
-    requires { ⌜ Sound g (now stripe) i × Known (g .n) first × Known (g .n) second ⌝ }
-    ensures { λ r. ⌜ Fills (newBytes reedSolomon (g .n) first second (column g (now (stripe .entry)) i)) (r .0) (r .1) ⌝ }
-{
-    match first {
-        Device::Data(x) => match second {
-            Device::Data(y) => two_data(g, stripe, i, x, y),
-            Device::P => data_and_p(g, stripe, i, x),
-            Device::Q => data_and_q(g, stripe, i, x),
-        },
-        Device::P => match second {
-            Device::Data(x) => exchange(data_and_p(g, stripe, i, x)),
-            Device::P => repeat(p_and_q(g, stripe, i).0),
-            Device::Q => p_and_q(g, stripe, i),
-        },
-        Device::Q => match second {
-            Device::Data(x) => exchange(data_and_q(g, stripe, i, x)),
-            Device::P => exchange(p_and_q(g, stripe, i)),
-            Device::Q => repeat(p_and_q(g, stripe, i).1),
-        },
-    }
-}
-
-fn repeat(b: u8) -> Pair
-    ensures { λ r. ⌜ (r .0 ≡ b) × (r .1 ≡ b) ⌝ }
-{
-    Pair(b, b)
-}
-
-// P and Q recomputed from the data: no disk is n.
-fn p_and_q(g: Geometry, stripe: &[u8], i: usize) -> Pair
-    requires { ⌜ Sound g (now stripe) i ⌝ }
-    ensures { λ r. ⌜ Parities (g .n) (column g (now (stripe .entry)) i) (r .0) (r .1) ⌝ }
-{
-    parities(g, stripe, i, g.n, g.n)
-}
-
 // ---- every column
 
-fn restore_one(g: Geometry, stripe: &mut [u8], lost: Device)
-    requires { ⌜ Whole g (now stripe) × Known (g .n) lost ⌝ }
-    ensures { λ _. ⌜ now (stripe .exit) ≡ rebuilt g (Lost.One lost) (now (stripe .entry)) ⌝ }
+// The roles x and y get their bytes; a role past n + 1 stands for no device.
+fn restore(g: Geometry, stripe: &mut [u8], x: usize, y: usize, rule: Rule)
+    requires { ⌜ Whole g (now stripe) ⌝ }
+    ensures { λ _. ⌜ now (stripe .exit) ≡ lift g (λ i c. solved (g .n) x y rule c) (now (stripe .entry)) ⌝ }
 {
-    let role = g.role(lost);
+    if g.b < 64 {
+        restore_columns(g, stripe, x, y, rule);
+    } else {
+        restore_chunks(g, stripe, x, y, rule);
+    }
+}
+
+fn restore_columns(g: Geometry, stripe: &mut [u8], x: usize, y: usize, rule: Rule)
+    requires { ⌜ Whole g (now stripe) ⌝ }
+    ensures { λ _. ⌜ now (stripe .exit) ≡ lift g (λ i c. solved (g .n) x y rule c) (now (stripe .entry)) ⌝ }
+{
     let mut i = 0;
     while i < g.b {
-        let new = one(g, stripe, i, lost);
-        store(g, stripe, i, role, new);
+        let new = solve(g, stripe, i, x, y, rule);
+        store_role(g, stripe, i, y, new.1);
+        store_role(g, stripe, i, x, new.0);
         i += 1;
     }
 }
 
-fn restore_two(g: Geometry, stripe: &mut [u8], first: Device, second: Device)
-    requires { ⌜ Whole g (now stripe) × Known (g .n) first × Known (g .n) second ⌝ }
-    ensures { λ _. ⌜ now (stripe .exit) ≡ rebuilt g (Lost.Two first second) (now (stripe .entry)) ⌝ }
+// The bytes of the lost roles in column i.
+fn solve(g: Geometry, stripe: &[u8], i: usize, x: usize, y: usize, rule: Rule) -> Pair
+    requires { ⌜ Sound g (now stripe) i ⌝ }
+    ensures { λ r. ⌜ Fills (solution rule (syndromeP (g .n) (without x y (column g (now (stripe .entry)) i))) (syndromeQ reedSolomon (g .n) (without x y (column g (now (stripe .entry)) i)))) (r .0) (r .1) ⌝ }
 {
-    let first_role = g.role(first);
-    let second_role = g.role(second);
+    let rest = parities(g, stripe, i, x, y);
+    let p = byte_but(g, stripe, i, g.n, x, y).sum(Element(rest.0));
+    let q = byte_but(g, stripe, i, g.n + 1, x, y).sum(Element(rest.1));
+    match rule {
+        Rule::Plain => Pair(p.0, q.0),
+        Rule::Mixed(a, b) => {
+            let d = Element(a).product(p).sum(Element(b).product(q));
+            let e = p.sum(d);
+            Pair(d.0, e.0)
+        }
+    }
+}
+
+fn store_role(g: Geometry, stripe: &mut [u8], i: usize, role: usize, new: u8)
+    requires { ⌜ Sound g (now stripe) i ⌝ }
+    ensures { λ _. ⌜ now (stripe .exit) ≡ choose (ltb role (g .n + 2)) (set (now (stripe .entry)) (start g role + i) new) (now (stripe .entry)) ⌝ }
+{
+    if role < g.n + 2 {
+        store(g, stripe, i, role, new);
+    }
+}
+
+// ---- 64 columns at a time
+
+// The last chunk begins 64 columns before the end, also where it repeats columns of the one before:
+// a column that is restored again stays.
+fn restore_chunks(g: Geometry, stripe: &mut [u8], x: usize, y: usize, rule: Rule)
+    requires { ⌜ Whole g (now stripe) × (64 ≤ g .b) ⌝ }
+    ensures { λ _. ⌜ now (stripe .exit) ≡ lift g (λ i c. solved (g .n) x y rule c) (now (stripe .entry)) ⌝ }
+{
     let mut i = 0;
     while i < g.b {
-        let new = two(g, stripe, i, first, second);
-        store(g, stripe, i, second_role, new.1);
-        store(g, stripe, i, first_role, new.0);
-        i += 1;
+        let at = if i < g.b - 64 { i } else { g.b - 64 };
+        restore_chunk(g, stripe, at, x, y, rule);
+        i += 64;
+    }
+}
+
+fn restore_chunk(g: Geometry, stripe: &mut [u8], i: usize, x: usize, y: usize, rule: Rule)
+    requires { ⌜ Whole g (now stripe) × (i + 64 ≤ g .b) ⌝ }
+    ensures { λ _. ⌜ Passed g i (λ j c. solved (g .n) x y rule c) (now (stripe .entry)) (now (stripe .exit)) ⌝ }
+{
+    let s = survivors(g, stripe, i, x, y);
+    let mut p = s.p;
+    let q = s.q;
+    match rule {
+        Rule::Plain => set_roles(g, stripe, i, x, y, p, q),
+        Rule::Mixed(a, b) => {
+            let mut d = [0u8; 64];
+            chunk::add_product(&mut d, a, p);
+            chunk::add_product(&mut d, b, q);
+            chunk::add(&mut p, &d);
+            set_roles(g, stripe, i, x, y, d, p);
+        }
+    }
+}
+
+// The two sums of each column without the roles x and y. Lost data are set to 00, so that the loop
+// over the disks need not test for them.
+fn survivors(g: Geometry, stripe: &mut [u8], i: usize, x: usize, y: usize) -> Sums
+    requires { ⌜ Whole g (now stripe) × (i + 64 ≤ g .b) ⌝ }
+    ensures { λ r. ⌜ Passed g i (λ j c. emptied (g .n) x (emptied (g .n) y c)) (now (stripe .entry)) (now (stripe .exit))
+        × Chunk (λ j. syndromeP (g .n) (without x y (column g (now (stripe .entry)) (i + j)))) (r .p)
+        × Chunk (λ j. syndromeQ reedSolomon (g .n) (without x y (column g (now (stripe .entry)) (i + j)))) (r .q) ⌝ }
+{
+    clear(g, stripe, i, y);
+    clear(g, stripe, i, x);
+    let s = chunk_parities(g, stripe, i);
+    let mut p = s.p;
+    let mut q = s.q;
+    add_stored(g, stripe, i, g.n, x, y, &mut p);
+    add_stored(g, stripe, i, g.n + 1, x, y, &mut q);
+    Sums { p, q }
+}
+
+// P and Q of each column as the data give them: equations 1 and 2, the second by Horner's rule
+// (equation 21) from the highest disk down.
+fn chunk_parities(g: Geometry, stripe: &[u8], i: usize) -> Sums
+    requires { ⌜ Whole g (now stripe) × (i + 64 ≤ g .b) ⌝ }
+    ensures { λ r. ⌜ Chunk (λ j. parityP (g .n) (column g (now (stripe .entry)) (i + j))) (r .p)
+        × Chunk (λ j. parityQ reedSolomon (g .n) (column g (now (stripe .entry)) (i + j))) (r .q) ⌝ }
+{
+    let mut k = g.n - 1;
+    let mut p = load(g, stripe, i, k);
+    let mut q = p;
+    while 0 < k {
+        k -= 1;
+        let d = load(g, stripe, i, k);
+        chunk::add_disk(&mut p, &mut q, &d);
+    }
+    Sums { p, q }
+}
+
+// Adds the bytes of a role unless it is x or y.
+fn add_stored(
+    g: Geometry,
+    stripe: &[u8],
+    i: usize,
+    role: usize,
+    x: usize,
+    y: usize,
+    a: &mut [u8; 64],
+)
+    requires { ⌜ Whole g (now stripe) × (i + 64 ≤ g .b) × (role < g .n + 2) ⌝ }
+    ensures { λ _. ⌜ Chunk (λ j. sum (without x y (column g (now (stripe .entry)) (i + j)) role) (getD (now (a .entry)) j 0)) (now (a .exit)) ⌝ }
+{
+    if role != x {
+        if role != y {
+            let d = load(g, stripe, i, role);
+            chunk::add(a, &d);
+        }
+    }
+}
+
+// The bytes of a role in the 64 columns from i on.
+fn load(g: Geometry, stripe: &[u8], i: usize, role: usize) -> [u8; 64]
+    requires { ⌜ Whole g (now stripe) × (i + 64 ≤ g .b) × (role < g .n + 2) ⌝ }
+    ensures { λ r. ⌜ Chunk (λ j. column g (now (stripe .entry)) (i + j) role) r ⌝ }
+{
+    let at = g.start(role) + i;
+    chunk_of(&stripe[at..at + 64])
+}
+
+fn chunk_of(from: &[u8]) -> [u8; 64]
+    requires { ⌜ length (now from) ≡ 64 ⌝ }
+    ensures { λ r. ⌜ r ≡ now (from .entry) ⌝ }
+{
+    let mut to = [0u8; 64];
+    copy(&mut to, from);
+    to
+}
+
+fn clear(g: Geometry, stripe: &mut [u8], i: usize, role: usize)
+    requires { ⌜ Whole g (now stripe) × (i + 64 ≤ g .b) ⌝ }
+    ensures { λ _. ⌜ Passed g i (λ j c. emptied (g .n) role c) (now (stripe .entry)) (now (stripe .exit)) ⌝ }
+{
+    if role < g.n {
+        let zero = [0u8; 64];
+        set_role(g, stripe, i, role, zero);
+    }
+}
+
+fn set_roles(
+    g: Geometry,
+    stripe: &mut [u8],
+    i: usize,
+    x: usize,
+    y: usize,
+    first: [u8; 64],
+    second: [u8; 64],
+)
+    requires { ⌜ Whole g (now stripe) × (i + 64 ≤ g .b) ⌝ }
+    ensures { λ _. ⌜ Passed g i (λ j c. putRole (g .n) x (getD first j 0) (putRole (g .n) y (getD second j 0) c)) (now (stripe .entry)) (now (stripe .exit)) ⌝ }
+{
+    set_role(g, stripe, i, y, second);
+    set_role(g, stripe, i, x, first);
+}
+
+fn set_role(g: Geometry, stripe: &mut [u8], i: usize, role: usize, new: [u8; 64])
+    requires { ⌜ Whole g (now stripe) × (i + 64 ≤ g .b) ⌝ }
+    ensures { λ _. ⌜ Passed g i (λ j c. putRole (g .n) role (getD new j 0) c) (now (stripe .entry)) (now (stripe .exit)) ⌝ }
+{
+    if role < g.n + 2 {
+        set_stretch(g, stripe, role, i, &new);
     }
 }

@@ -1,14 +1,23 @@
 -- `stripe::judge_column` meets its contract: P* and Q* are stored plus recomputed.
 -- Assumes nothing.
-use mathlib.Core.Path.{ap₂, _∙_}
+use mathlib.Core.Path.{_≡_, refl, ap₂, _∙_}
+use Prim.Native.Nat.{ℕ}
+use native.Mathlib.Nat.{le-refl}
 use borrow.Author.Needs.{needs}
-use Rattle.gf256.specs.Field.{sum}
-use Rattle.stripe.specs.Column.{verdictOf}
+use Rattle.gf256.specs.Field.{sum, product, power}
+use Rattle.gf256.proofs.Laws.{product-right}
+use Rattle.stripe.proofs.Weighted.{Additive, weighted, weighted-outside}
+use Rattle.stripe.specs.Column.{Column, put, verdictOf, reedSolomon}
+use Rattle.stripe.specs.Stripe.{column}
 use Rattle.stripe.proofs.judge_column.Statement.{statement}
 use Rattle.stripe.proofs.judge_column.Tie as tie
 
-p-and-q-requires : tie.Need-p-and-q-requires
-p-and-q-requires c κs = search needs
+-- role n, twice taken as 00, is no data disk
+outside : (t : ℕ → ℕ → ℕ) → Additive t → (n : ℕ) (c : Column) → weighted t n (put n 0 (put n 0 c)) ≡ weighted t n c
+outside t add n c = weighted-outside t add n (put n 0 c) n 0 (le-refl n) ∙ weighted-outside t add n c n 0 (le-refl n)
+
+parities-requires : tie.Need-parities-requires
+parities-requires c κs = search needs
 
 byte-requires : tie.Need-byte-requires
 byte-requires c κs = search needs
@@ -29,17 +38,22 @@ judge-requires : tie.Need-judge-requires
 judge-requires c κs = search needs
 
 returns : tie.Need-returns
+unfolding reedSolomon
 returns c =
+    let a = c .before .before .before .before .before .before .before .before .args in
+    let n = a .g .n in
+    let e = column (a .g) (a .stripe .now) (a .i) in
+    let given = c .before .before .before .before .before .before .parities .ensures in
     c .judge .ensures
-    ∙ ap₂ (verdictOf (c .before .before .before .before .before .before .before .before .args .g .n))
-    (c .before .before .before .before .sum .ensures ∙ ap₂ sum (c .before .before .before .before .before .byte .ensures) (c .before .before .before .before .before .before .p-and-q .ensures .first))
-    (c .before .sum2 .ensures ∙ ap₂ sum (c .before .before .byte2 .ensures) (c .before .before .before .before .before .before .p-and-q .ensures .second))
+    ∙ ap₂ (verdictOf n)
+    (c .before .before .before .before .sum .ensures ∙ ap₂ sum (c .before .before .before .before .before .byte .ensures) (given .first ∙ outside (λ k v. v) (λ k v w. refl) n e))
+    (c .before .sum2 .ensures ∙ ap₂ sum (c .before .before .byte2 .ensures) (given .second ∙ outside (λ k v. product (power 2 k) v) (λ k. product-right (power 2 k)) n e))
 
 pub judge-column-spec : {M : Type 1} → statement M
 judge-column-spec =
     tie.close
     (tie.spec
-    p-and-q-requires
+    parities-requires
     byte-requires
     sum-requires
     add-byte

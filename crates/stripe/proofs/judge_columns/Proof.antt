@@ -1,22 +1,16 @@
--- `stripe::judge_columns` meets its contract. The loop's invariant: the places below i hold their verdicts, and `found` is their summary.
--- The measure is what is left of B.
+-- `stripe::judge_columns` meets its contract. The invariant of both loops: the places below i hold their verdicts, and `found` is their
+-- summary. The measure is what is left of B.
 -- Assumes nothing.
-use mathlib.Core.Path.{_≡_, refl, sym, ap, ap₂, _∙_}
+use mathlib.Core.Path.{sym, _∙_}
 use mathlib.Core.List.{List}
-use Prim.Native.Nat.{ℕ, _-_, _≤_, _<_}
-use native.Mathlib.Nat.{not-suc-le-zero}
-use native.Mathlib.Numerals.{add-one}
+use Prim.Native.Nat.{ℕ, _+_, _-_, _≤_}
 use native.Mathlib.Omega.{arith}
 use borrow.Author.Needs.{needs}
-use borrow.Author.Count.{below-more}
-use lib.Dec.{eqb}
-use lib.ListN.{length, getD, set, length-set}
-use lib.Seq.{ext-getD, getD-set-same, getD-set-other}
-use Rattle.stripe.proofs.Places.{length-tabulate, getD-tabulate}
-use Rattle.stripe.proofs.Summary.{summary-more}
-use Rattle.stripe.specs.Choice.{choose, tabulate}
+use borrow.Rule.Slice.PartMut.{post-is}
+use lib.ListN.{length-take, length-drop}
+use Rattle.stripe.proofs.Filled.{Told, told-none, told-more, told-part, told-all}
 use Rattle.stripe.specs.Column.{verdict}
-use Rattle.stripe.specs.Stripe.{column, summary}
+use Rattle.stripe.specs.Stripe.{column}
 use Rattle.stripe.specs.declared.Geometry.{Geometry}
 use Rattle.stripe.proofs.judge_columns.Statement.{statement}
 use Rattle.stripe.proofs.judge_columns.Tie as tie
@@ -25,73 +19,95 @@ abbrev at : Geometry → List ℕ → ℕ → ℕ
 at g stripe j = verdict (g .n) (column g stripe j)
 
 abbrev Inv-loop : tie.InvT-loop
-Inv-loop g stripe room₀ found₀ i₀ room found i =
-    (i ≤ g .b)
-    × (length room ≡ length room₀)
-    × ((j : ℕ) → j < i → getD room j 0 ≡ at g stripe j)
-    × (found ≡ summary (tabulate i (at g stripe)))
+Inv-loop g stripe room₀ found₀ i₀ room found i = (i ≤ g .b) × Told (at g stripe) (g .b) room i found
 
 abbrev μ-loop : tie.MeasureT-loop
 μ-loop g stripe room₀ found₀ i₀ room found i = g .b - i
 
-none : (f : ℕ → ℕ) → 0 ≡ summary (tabulate 0 f)
-unfolding tabulate
-none f = refl
+abbrev Inv-loop2 : tie.InvT-loop2
+Inv-loop2 = Inv-loop
 
-loop-holds : tie.Need-loop-holds Inv-loop μ-loop
-loop-holds c = (omega arith, refl, (λ j p. absurd (not-suc-le-zero p)), none (at (c .before .before .args .g) (c .before .before .args .stripe .now)))
+abbrev μ-loop2 : tie.MeasureT-loop2
+μ-loop2 = μ-loop
 
-judge-column-requires : tie.Need-judge-column-requires Inv-loop μ-loop
-judge-column-requires c κs =
-    let pre = c .before .before .before .before .before .pre .0 in
-    record { disks = pre .disks; block = pre .block; whole = pre .whole; inside = c .if1 .taken }
+loop-holds : tie.Need-loop-holds Inv-loop μ-loop Inv-loop2 μ-loop2
+loop-holds c = (omega arith, told-none (c .before .before .pre .1))
 
-mul-room : tie.Need-mul-room Inv-loop μ-loop
-mul-room c = omega (arith, c .before .before .before .before .before .before .pre .0 .block)
+sub-if1 : tie.Need-sub-if1 Inv-loop μ-loop Inv-loop2 μ-loop2
+sub-if1 c = omega arith
 
-slice-write-room : tie.Need-slice-write-room Inv-loop μ-loop
-slice-write-room c =
-    let len = c .before .before .before .loop .inv .1 in omega (arith, c .before .before .before .before .before .before .pre .1)
+add-judge-chunk : tie.Need-add-judge-chunk Inv-loop μ-loop Inv-loop2 μ-loop2
+add-judge-chunk c = omega arith
 
-first-nonzero-requires : tie.Need-first-nonzero-requires Inv-loop μ-loop
+mul-judge-chunk : tie.Need-mul-judge-chunk Inv-loop μ-loop Inv-loop2 μ-loop2
+mul-judge-chunk c = omega (arith, c .before .before .before .before .before .pre .0 .block)
+
+sub-judge-chunk : tie.Need-sub-judge-chunk Inv-loop μ-loop Inv-loop2 μ-loop2
+sub-judge-chunk c = omega arith
+
+part-judge-chunk-start : tie.Need-part-judge-chunk-start Inv-loop μ-loop Inv-loop2 μ-loop2
+part-judge-chunk-start c = omega arith
+
+part-judge-chunk-end : tie.Need-part-judge-chunk-end Inv-loop μ-loop Inv-loop2 μ-loop2
+part-judge-chunk-end c = omega (arith, c .before .before .loop .inv .1 .filled .long)
+
+judge-chunk-requires : tie.Need-judge-chunk-requires Inv-loop μ-loop Inv-loop2 μ-loop2
+judge-chunk-requires c κs =
+    let l = c .before .before .before .loop in (
+      c .before .before .before .before .before .before .pre .0,
+      omega arith,
+      simp (length-take, length-drop) (omega (arith, l .inv .1 .filled .long)),
+    )
+
+first-nonzero-requires : tie.Need-first-nonzero-requires Inv-loop μ-loop Inv-loop2 μ-loop2
 first-nonzero-requires c κs = search needs
 
-add-i : tie.Need-add-i Inv-loop μ-loop
+add-i : tie.Need-add-i Inv-loop μ-loop Inv-loop2 μ-loop2
 add-i c = omega arith
 
-loop-less : tie.Need-loop-less Inv-loop μ-loop
+loop-less : tie.Need-loop-less Inv-loop μ-loop Inv-loop2 μ-loop2
 loop-less c = omega arith
 
-loop-again : tie.Need-loop-again Inv-loop μ-loop
+loop-again : tie.Need-loop-again Inv-loop μ-loop Inv-loop2 μ-loop2
 loop-again c =
-    let here = c .before .before .before .before .before .before .before in
-    let f = at (here .args .g) (here .args .stripe .now) in
-    let l = c .before .before .before .before .loop in
-    let v = c .before .judge-column in (
+    let l = c .before .before .before .before .before .before .before .loop in (
       omega arith,
-      length-set (l .room) (l .i) (v .result) ∙ l .inv .1,
-      below-more (λ j. getD (set (l .room) (l .i) (v .result)) j 0 ≡ f j) (l .i)
-          (λ j p. getD-set-other (l .room) (l .i) j (v .result) 0 (omega arith) ∙ l .inv .2 j p)
-          (getD-set-same (l .room) (l .i) (v .result) 0 (omega (arith, here .pre .1)) ∙ v .ensures),
-      c .first-nonzero .ensures
-          ∙ ap₂ (λ (a w : ℕ). choose (eqb a 0) w a) (l .inv .3) (v .ensures)
-          ∙ sym (ap (λ (k : ℕ). summary (tabulate k f)) (add-one (l .i)) ∙ summary-more (l .i) f),
+      told-part 64 (l .inv .1) (omega arith) (c .before .before .before .judge-chunk .ensures) (post-is (l .i) (l .i + 64) (l .room) (omega arith)) (c .first-nonzero .ensures),
     )
 
-same-length : tie.Need-same-length Inv-loop μ-loop
-same-length c = c .before .before .loop .inv .1
+loop2-holds : tie.Need-loop2-holds Inv-loop μ-loop Inv-loop2 μ-loop2
+loop2-holds c = c .before .before .loop .inv
 
-returns : tie.Need-returns Inv-loop μ-loop
-returns c =
-    let here = c .before .before .before .before .before in
-    let g = here .args .g in
-    let f = at g (here .args .stripe .now) in
-    let l = c .before .before .loop in
-    let all : l .i ≡ g .b = omega arith in (
-      l .inv .3 ∙ ap (λ (k : ℕ). summary (tabulate k f)) all,
-      ext-getD 0 (l .room) (tabulate (g .b) f) (l .inv .1 ∙ here .pre .1 ∙ sym (length-tabulate (g .b) f))
-          (λ j p. l .inv .2 j (omega (arith, here .pre .1)) ∙ sym (getD-tabulate (g .b) f j 0 (omega (arith, here .pre .1)))),
-    )
+judge-column-requires : tie.Need-judge-column-requires Inv-loop μ-loop Inv-loop2 μ-loop2
+judge-column-requires c κs =
+    let pre = c .before .before .before .before .before .before .before .before .pre .0 in
+    record { disks = pre .disks; block = pre .block; whole = pre .whole; inside = c .if2 .taken }
+
+mul-room : tie.Need-mul-room Inv-loop μ-loop Inv-loop2 μ-loop2
+mul-room c = omega (arith, c .before .before .before .before .before .before .before .before .before .pre .0 .block)
+
+slice-write-room : tie.Need-slice-write-room Inv-loop μ-loop Inv-loop2 μ-loop2
+slice-write-room c = omega (arith, c .before .before .before .loop2 .inv .1 .filled .long)
+
+first-nonzero-requires-2 : tie.Need-first-nonzero-requires-2 Inv-loop μ-loop Inv-loop2 μ-loop2
+first-nonzero-requires-2 c κs = search needs
+
+add-i-2 : tie.Need-add-i-2 Inv-loop μ-loop Inv-loop2 μ-loop2
+add-i-2 c = omega arith
+
+loop2-less : tie.Need-loop2-less Inv-loop μ-loop Inv-loop2 μ-loop2
+loop2-less c = omega arith
+
+loop2-again : tie.Need-loop2-again Inv-loop μ-loop Inv-loop2 μ-loop2
+loop2-again c =
+    let l = c .before .before .before .before .loop2 in
+    (omega arith, told-more (l .inv .1) (omega arith) (c .before .judge-column .ensures) (c .first-nonzero2 .ensures))
+
+same-length : tie.Need-same-length Inv-loop μ-loop Inv-loop2 μ-loop2
+same-length c = c .before .before .loop2 .inv .1 .filled .long ∙ sym (c .before .before .before .before .before .before .before .before .pre .1)
+
+returns : tie.Need-returns Inv-loop μ-loop Inv-loop2 μ-loop2
+returns c = told-all (c .before .before .loop2 .inv .1) (omega arith)
 
 pub judge-columns-spec : {M : Type 1} → statement M
 judge-columns-spec =
@@ -99,13 +115,27 @@ judge-columns-spec =
     (tie.spec
     Inv-loop
     μ-loop
+    Inv-loop2
+    μ-loop2
     loop-holds
-    judge-column-requires
-    mul-room
-    slice-write-room
+    sub-if1
+    add-judge-chunk
+    mul-judge-chunk
+    sub-judge-chunk
+    part-judge-chunk-start
+    part-judge-chunk-end
+    judge-chunk-requires
     first-nonzero-requires
     add-i
     loop-less
     loop-again
+    loop2-holds
+    judge-column-requires
+    mul-room
+    slice-write-room
+    first-nonzero-requires-2
+    add-i-2
+    loop2-less
+    loop2-again
     same-length
     returns)

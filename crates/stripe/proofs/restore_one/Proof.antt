@@ -1,98 +1,82 @@
--- `stripe::restore_one` meets its contract. The loop's invariant: the columns below i are rebuilt. The measure is what is left of B.
+-- `stripe::restore_one` meets its contract, by the device's case.
 -- Assumes nothing.
-use mathlib.Core.Path.{_≡_, sym, ap, ap₂, subst, _∙_}
-use mathlib.Core.List.{List}
-use Prim.Native.Nat.{ℕ, _+_, _-_, _≤_, _<_}
-use native.Mathlib.Nat.{le-refl}
-use native.Mathlib.Omega.{arith}
-use Rattle.stripe.proofs.Inside.{known-role}
-use Rattle.stripe.proofs.Sweep.{Swept, sweep-none, sweep-one, sweep-all}
-use Rattle.stripe.specs.Column.{Column, put, reedSolomon, newByte, rebuildColumn}
-use Rattle.stripe.specs.Stripe.{column}
-use Rattle.stripe.specs.declared.Device.{Device}
-use Rattle.stripe.specs.declared.Geometry.{Geometry}
-use Rattle.stripe.specs.declared.Lost.the-variants.{One}
+use mathlib.Core.Path.{_∙_}
+use borrow.Author.Needs.{needs}
+use Rattle.stripe.proofs.Places.{lift-same}
+use Rattle.stripe.proofs.Solved.{solved-data, solved-p, solved-q}
 use Rattle.stripe.proofs.restore_one.Statement.{statement}
 use Rattle.stripe.proofs.restore_one.Tie as tie
 
-abbrev rule : Geometry → Device → ℕ → Column → Column
-rule g lost i c = rebuildColumn reedSolomon (g .n) (One lost) c
+enum-known-lost : tie.Need-enum-known-lost
+enum-known-lost c = search needs
 
-abbrev Inv-loop : tie.InvT-loop
-Inv-loop g stripe₀ lost role i₀ stripe i = (i ≤ g .b) × Swept g (rule g lost) stripe₀ stripe i
+add-restore : tie.Need-add-restore
+add-restore c = search needs
 
-abbrev μ-loop : tie.MeasureT-loop
-μ-loop g stripe₀ lost role i₀ stripe i = g .b - i
+restore-requires : tie.Need-restore-requires
+restore-requires c κs = search needs
 
-role-requires : tie.Need-role-requires Inv-loop μ-loop
-role-requires c κs = c .before .pre .0 .disks
+enum-told : tie.Need-enum-told
+enum-told c = search needs
 
-loop-holds : tie.Need-loop-holds Inv-loop μ-loop
-loop-holds c = let a = c .before .before .args in (omega arith, sweep-none (a .g) (rule (a .g) (a .lost)) (a .stripe .now))
+add-restore-2 : tie.Need-add-restore-2
+add-restore-2 c = search needs
 
-one-requires : tie.Need-one-requires Inv-loop μ-loop
-one-requires c κs =
-    let pre = c .before .before .before .before .before .before .pre .0 in
-    record { disks = pre .disks; block = pre .block; whole = c .before .before .before .loop .inv .1 .kept ∙ pre .whole; inside = c .before .if1 .taken }
+restore-requires-2 : tie.Need-restore-requires-2
+restore-requires-2 c κs = search needs
 
-store-requires : tie.Need-store-requires Inv-loop μ-loop
-store-requires c κs =
-    let here = c .before .before .before .before .before .before .before .before in
-    let pre = here .pre .0 in (
-      record { disks = pre .disks; block = pre .block; whole = c .before .before .before .before .before .loop .inv .1 .kept ∙ pre .whole; inside = c .before .before .before .if1 .taken },
-      subst (λ (r : ℕ). r < here .args .g .n + 2) (sym (c .before .before .before .before .before .before .role .ensures)) (known-role (here .args .g .n) (here .args .lost) (here .pre .1)),
-    )
+enum-told-2 : tie.Need-enum-told-2
+enum-told-2 c = search needs
 
-add-i : tie.Need-add-i Inv-loop μ-loop
-add-i c = omega arith
+add-restore-3 : tie.Need-add-restore-3
+add-restore-3 c = search needs
 
-loop-less : tie.Need-loop-less Inv-loop μ-loop
-loop-less c = omega arith
+add-restore-4 : tie.Need-add-restore-4
+add-restore-4 c = search needs
 
-loop-again : tie.Need-loop-again Inv-loop μ-loop
-loop-again c =
-    let here = c .before .before .before .before .before .before .before .before .before .before .before in
-    let g = here .args .g in
-    let s = here .args .stripe .now in
-    let lost = here .args .lost in
-    let f = rule g lost in
-    let role = c .before .before .before .before .before .before .before .before .before .role in
-    let at = c .before .before .before .before .before .before .before .before .loop in
-    let inside = c .before .before .before .before .before .before .if1 .taken in
-    let v = c .before .before .before .before .one .result in
-    let e = column g s (at .i) in
-    let new : v ≡ newByte reedSolomon (g .n) lost e =
-    c .before .before .before .before .one .ensures ∙ ap (newByte reedSolomon (g .n) lost) (at .inv .1 .old (at .i) (le-refl (at .i)) inside)
-    in (
-      omega arith,
-      subst (λ (l : List ℕ). Swept g f s l (at .i + 1)) (sym (c .before .before .store .ensures))
-          (sweep-one g f s (at .stripe) (at .i) (role .result) v (at .inv .1) inside (here .pre .0 .whole)
-          (subst (λ (r : ℕ). r < g .n + 2) (sym (role .ensures)) (known-role (g .n) lost (here .pre .1)))
-          (ap₂ (λ (r w : ℕ). put r w e) (role .ensures) new)),
-    )
+restore-requires-3 : tie.Need-restore-requires-3
+restore-requires-3 c κs = search needs
 
-same-length : tie.Need-same-length Inv-loop μ-loop
-same-length c = c .before .before .loop .inv .1 .kept
+same-length : tie.Need-same-length
+same-length c = search needs
 
-returns : tie.Need-returns Inv-loop μ-loop
+returns : tie.Need-returns
 returns c =
-    let here = c .before .before .before .before .before in
-    let g = here .args .g in
-    let at = c .before .before .loop in
-    sweep-all g (rule g (here .args .lost)) (here .args .stripe .now) (at .stripe) (at .i) (at .inv .1) (c .if1 .left) (here .pre .0 .some) (here .pre .0 .whole)
+    let here = c .before .before .before .before .before .before .before .before .before in
+    let a = here .args in
+    rw (c .before .before .before .before .before .before .lost .given .1) (c .before .before .restore .ensures ∙ lift-same (a .g) (a .stripe .now) (solved-data (a .g .n) _ (rw (c .before .before .before .before .before .before .lost .given .1) at (here .pre .1))))
+
+same-length-2 : tie.Need-same-length-2
+same-length-2 c = search needs
+
+returns-2 : tie.Need-returns-2
+returns-2 c =
+    let a = c .before .before .before .before .before .before .before .before .args in rw (c .before .before .before .before .before .enum-told .given .1) (c .before .before .restore2 .ensures ∙ lift-same (a .g) (a .stripe .now) (solved-p (a .g .n)))
+
+same-length-3 : tie.Need-same-length-3
+same-length-3 c = search needs
+
+returns-3 : tie.Need-returns-3
+returns-3 c =
+    let a = c .before .before .before .before .before .before .before .before .before .args in rw (c .before .before .before .before .before .before .enum-told2 .given .1) (c .before .before .restore3 .ensures ∙ lift-same (a .g) (a .stripe .now) (solved-q (a .g .n)))
 
 pub restore-one-spec : {M : Type 1} → statement M
 restore-one-spec =
     tie.close
     (tie.spec
-    Inv-loop
-    μ-loop
-    role-requires
-    loop-holds
-    one-requires
-    store-requires
-    add-i
-    loop-less
-    loop-again
+    enum-known-lost
+    add-restore
+    restore-requires
+    enum-told
+    add-restore-2
+    restore-requires-2
+    enum-told-2
+    add-restore-3
+    add-restore-4
+    restore-requires-3
     same-length
-    returns)
+    returns
+    same-length-2
+    returns-2
+    same-length-3
+    returns-3)

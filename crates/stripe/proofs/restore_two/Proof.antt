@@ -1,123 +1,193 @@
--- `stripe::restore_two` meets its contract. The loop's invariant: the columns below i are rebuilt. The measure is what is left of B.
+-- `stripe::restore_two` meets its contract, by the two devices' cases.
 -- Assumes nothing.
-use mathlib.Core.Path.{sym, ap, ap₂, subst, _∙_}
-use mathlib.Core.List.{List}
-use Prim.Native.Nat.{ℕ, _+_, _-_, _≤_, _<_}
-use native.Mathlib.Nat.{le-refl}
-use native.Mathlib.Omega.{arith}
-use lib.ListN.{length, set, length-set}
-use Rattle.stripe.proofs.Inside.{known-role}
-use Rattle.stripe.proofs.Sweep.{Swept, sweep-none, sweep-pair, sweep-all}
-use Rattle.stripe.specs.Column.{Column, put, roleOf, reedSolomon, newBytes, rebuildColumn}
-use Rattle.stripe.specs.Stripe.{start, column}
-use Rattle.stripe.specs.declared.Device.{Device}
-use Rattle.stripe.specs.declared.Geometry.{Geometry}
-use Rattle.stripe.specs.declared.Lost.the-variants.{Two}
+use mathlib.Core.Path.{sym, _∙_}
+use borrow.Author.Needs.{needs}
+use Rattle.stripe.proofs.Places.{lift-same}
+use Rattle.stripe.proofs.Solved.{solved-p-and-q, p-and-data, q-and-data, q-and-p, p-and-p, q-and-q}
 use Rattle.stripe.proofs.restore_two.Statement.{statement}
 use Rattle.stripe.proofs.restore_two.Tie as tie
 
-abbrev rule : Geometry → Device → Device → ℕ → Column → Column
-rule g first second i c = rebuildColumn reedSolomon (g .n) (Two first second) c
+enum-known-first : tie.Need-enum-known-first
+enum-known-first c = search needs
 
-abbrev Inv-loop : tie.InvT-loop
-Inv-loop g stripe₀ first second first-role second-role i₀ stripe i = (i ≤ g .b) × Swept g (rule g first second) stripe₀ stripe i
+enum-known-second : tie.Need-enum-known-second
+enum-known-second c = search needs
 
-abbrev μ-loop : tie.MeasureT-loop
-μ-loop g stripe₀ first second first-role second-role i₀ stripe i = g .b - i
+two-data-requires : tie.Need-two-data-requires
+two-data-requires c κs =
+    (c .before .before .before .before .before .before .before .before .pre .0, rw (c .before .before .before .before .before .first .given .1) at (c .before .before .before .before .before .before .before .before .pre .1), rw (c .before .before .second .given .1) at (c .before .before .before .before .before .before .before .before .pre .2))
 
-role-requires : tie.Need-role-requires Inv-loop μ-loop
-role-requires c κs = c .before .pre .0 .disks
+enum-told : tie.Need-enum-told
+enum-told c = search needs
 
-role-requires-2 : tie.Need-role-requires-2 Inv-loop μ-loop
-role-requires-2 c κs = c .before .before .pre .0 .disks
+data-and-p-requires : tie.Need-data-and-p-requires
+data-and-p-requires c κs = (c .before .before .before .before .before .before .before .pre .0, rw (c .before .before .before .before .first .given .1) at (c .before .before .before .before .before .before .before .pre .1))
 
-loop-holds : tie.Need-loop-holds Inv-loop μ-loop
-loop-holds c =
-    let a = c .before .before .before .args in (omega arith, sweep-none (a .g) (rule (a .g) (a .first) (a .second)) (a .stripe .now))
+enum-told-2 : tie.Need-enum-told-2
+enum-told-2 c = search needs
 
-two-requires : tie.Need-two-requires Inv-loop μ-loop
-two-requires c κs =
-    let here = c .before .before .before .before .before .before .before in
-    let pre = here .pre .0 in
-    (record { disks = pre .disks; block = pre .block; whole = c .before .before .before .loop .inv .1 .kept ∙ pre .whole; inside = c .before .if1 .taken }, here .pre .1, here .pre .2)
+data-and-q-requires : tie.Need-data-and-q-requires
+data-and-q-requires c κs = (c .before .before .before .before .before .before .before .pre .0, rw (c .before .before .before .before .first .given .1) at (c .before .before .before .before .before .before .before .pre .1))
 
-store-requires : tie.Need-store-requires Inv-loop μ-loop
-store-requires c κs =
-    let here = c .before .before .before .before .before .before .before .before .before in
-    let pre = here .pre .0 in (
-      record { disks = pre .disks; block = pre .block; whole = c .before .before .before .before .before .loop .inv .1 .kept ∙ pre .whole; inside = c .before .before .before .if1 .taken },
-      subst (λ (r : ℕ). r < here .args .g .n + 2) (sym (c .before .before .before .before .before .before .role2 .ensures)) (known-role (here .args .g .n) (here .args .second) (here .pre .2)),
-    )
+enum-told-3 : tie.Need-enum-told-3
+enum-told-3 c = search needs
 
-store-requires-2 : tie.Need-store-requires-2 Inv-loop μ-loop
-store-requires-2 c κs =
-    let here = c .before .before .before .before .before .before .before .before .before .before .before .before .before in
-    let pre = here .pre .0 in
-    let at = c .before .before .before .before .before .before .before .before .before .loop in (
-      record {
-        disks = pre .disks;
-        block = pre .block;
-        whole = ap length (c .before .before .before .store .ensures) ∙ simp length-set (at .inv .1 .kept ∙ pre .whole);
-        inside = c .before .before .before .before .before .before .before .if1 .taken;
-      },
-      subst (λ (r : ℕ). r < here .args .g .n + 2) (sym (c .before .before .before .before .before .before .before .before .before .before .before .role .ensures)) (known-role (here .args .g .n) (here .args .first) (here .pre .1)),
-    )
+enum-known-second-2 : tie.Need-enum-known-second-2
+enum-known-second-2 c = search needs
 
-add-i : tie.Need-add-i Inv-loop μ-loop
-add-i c = omega arith
+data-and-p-requires-2 : tie.Need-data-and-p-requires-2
+data-and-p-requires-2 c κs = (c .before .before .before .before .before .before .before .pre .0, rw (c .before .before .second2 .given .1) at (c .before .before .before .before .before .before .before .pre .2))
 
-loop-less : tie.Need-loop-less Inv-loop μ-loop
-loop-less c = omega arith
+enum-told-4 : tie.Need-enum-told-4
+enum-told-4 c = search needs
 
-loop-again : tie.Need-loop-again Inv-loop μ-loop
-loop-again c =
-    let here = c .before .before .before .before .before .before .before .before .before .before .before .before .before .before .before .before in
-    let g = here .args .g in
-    let s = here .args .stripe .now in
-    let first = here .args .first in
-    let second = here .args .second in
-    let f = rule g first second in
-    let role = c .before .before .before .before .before .before .before .before .before .before .before .before .before .before .role in
-    let role2 = c .before .before .before .before .before .before .before .before .before .before .before .before .before .role2 in
-    let at = c .before .before .before .before .before .before .before .before .before .before .before .before .loop in
-    let inside = c .before .before .before .before .before .before .before .before .before .before .if1 .taken in
-    let new = c .before .before .before .before .before .before .before .before .two in
-    let e = column g s (at .i) in
-    let old = at .inv .1 .old (at .i) (le-refl (at .i)) inside in (
-      omega arith,
-      subst (λ (l : List ℕ). Swept g f s l (at .i + 1))
-          (sym (c .before .before .store2 .ensures ∙ ap (λ (l : List ℕ). set l (start g (role .result) + at .i) (new .result .0)) (c .before .before .before .before .before .before .store .ensures)))
-          (sweep-pair g f s (at .stripe) (at .i) (role2 .result) (new .result .1) (role .result) (new .result .0) (at .inv .1) inside (here .pre .0 .whole)
-          (subst (λ (r : ℕ). r < g .n + 2) (sym (role2 .ensures)) (known-role (g .n) second (here .pre .2)))
-          (subst (λ (r : ℕ). r < g .n + 2) (sym (role .ensures)) (known-role (g .n) first (here .pre .1)))
-          (ap₂ (λ (r v : ℕ). put r v (put (role2 .result) (new .result .1) e)) (role .ensures) (new .ensures .first ∙ ap (λ (k : Column). newBytes reedSolomon (g .n) first second k .first) old)
-          ∙ ap₂ (λ (r v : ℕ). put (roleOf (g .n) first) (newBytes reedSolomon (g .n) first second e .first) (put r v e)) (role2 .ensures) (new .ensures .second ∙ ap (λ (k : Column). newBytes reedSolomon (g .n) first second k .second) old))),
-    )
+restore-one-requires : tie.Need-restore-one-requires
+restore-one-requires c κs = search needs
 
-same-length : tie.Need-same-length Inv-loop μ-loop
-same-length c = c .before .before .loop .inv .1 .kept
+enum-told-5 : tie.Need-enum-told-5
+enum-told-5 c = search needs
 
-returns : tie.Need-returns Inv-loop μ-loop
-returns c =
-    let here = c .before .before .before .before .before .before in
-    let g = here .args .g in
-    let at = c .before .before .loop in
-    sweep-all g (rule g (here .args .first) (here .args .second)) (here .args .stripe .now) (at .stripe) (at .i) (at .inv .1) (c .if1 .left) (here .pre .0 .some) (here .pre .0 .whole)
+add-restore : tie.Need-add-restore
+add-restore c = search needs
+
+restore-requires : tie.Need-restore-requires
+restore-requires c κs = search needs
+
+enum-told-6 : tie.Need-enum-told-6
+enum-told-6 c = search needs
+
+enum-known-second-3 : tie.Need-enum-known-second-3
+enum-known-second-3 c = search needs
+
+data-and-q-requires-2 : tie.Need-data-and-q-requires-2
+data-and-q-requires-2 c κs = (c .before .before .before .before .before .before .before .pre .0, rw (c .before .before .second3 .given .1) at (c .before .before .before .before .before .before .before .pre .2))
+
+enum-told-7 : tie.Need-enum-told-7
+enum-told-7 c = search needs
+
+add-restore-2 : tie.Need-add-restore-2
+add-restore-2 c = search needs
+
+restore-requires-2 : tie.Need-restore-requires-2
+restore-requires-2 c κs = search needs
+
+enum-told-8 : tie.Need-enum-told-8
+enum-told-8 c = search needs
+
+restore-one-requires-2 : tie.Need-restore-one-requires-2
+restore-one-requires-2 c κs = search needs
+
+same-length : tie.Need-same-length
+same-length c = search needs
+
+returns : tie.Need-returns
+returns c = rw (c .before .before .before .before .before .before .before .before .first .given .1, c .before .before .before .before .before .second .given .1) (c .before .before .two-data .ensures)
+
+same-length-2 : tie.Need-same-length-2
+same-length-2 c = search needs
+
+returns-2 : tie.Need-returns-2
+returns-2 c = rw (c .before .before .before .before .before .before .before .first .given .1, c .before .before .before .before .enum-told .given .1) (c .before .before .data-and-p .ensures)
+
+same-length-3 : tie.Need-same-length-3
+same-length-3 c = search needs
+
+returns-3 : tie.Need-returns-3
+returns-3 c = rw (c .before .before .before .before .before .before .before .first .given .1, c .before .before .before .before .enum-told2 .given .1) (c .before .before .data-and-q .ensures)
+
+same-length-4 : tie.Need-same-length-4
+same-length-4 c = search needs
+
+returns-4 : tie.Need-returns-4
+returns-4 c =
+    let here = c .before .before .before .before .before .before .before .before .before .before in
+    rw (c .before .before .before .before .before .before .before .enum-told3 .given .1, c .before .before .before .before .before .second2 .given .1)
+    (c .before .before .data-and-p2 .ensures ∙ sym (lift-same (here .args .g) (here .args .stripe .now) (p-and-data (here .args .g .n) _ (rw (c .before .before .before .before .before .second2 .given .1) at (c .before .before .before .before .before .before .before .before .before .before .pre .2)))))
+
+same-length-5 : tie.Need-same-length-5
+same-length-5 c = search needs
+
+returns-5 : tie.Need-returns-5
+returns-5 c =
+    let a = c .before .before .before .before .before .before .before .before .before .args in
+    rw (c .before .before .before .before .before .before .enum-told3 .given .1, c .before .before .before .before .enum-told4 .given .1) (c .before .before .restore-one .ensures ∙ sym (lift-same (a .g) (a .stripe .now) (p-and-p (a .g .n))))
+
+same-length-6 : tie.Need-same-length-6
+same-length-6 c = search needs
+
+returns-6 : tie.Need-returns-6
+returns-6 c =
+    let a = c .before .before .before .before .before .before .before .before .before .before .args in
+    rw (c .before .before .before .before .before .before .before .enum-told3 .given .1, c .before .before .before .before .before .enum-told5 .given .1) (c .before .before .restore .ensures ∙ lift-same (a .g) (a .stripe .now) (solved-p-and-q (a .g .n)))
+
+same-length-7 : tie.Need-same-length-7
+same-length-7 c = search needs
+
+returns-7 : tie.Need-returns-7
+returns-7 c =
+    let here = c .before .before .before .before .before .before .before .before .before .before in
+    rw (c .before .before .before .before .before .before .before .enum-told6 .given .1, c .before .before .before .before .before .second3 .given .1)
+    (c .before .before .data-and-q2 .ensures ∙ sym (lift-same (here .args .g) (here .args .stripe .now) (q-and-data (here .args .g .n) _ (rw (c .before .before .before .before .before .second3 .given .1) at (c .before .before .before .before .before .before .before .before .before .before .pre .2)))))
+
+same-length-8 : tie.Need-same-length-8
+same-length-8 c = search needs
+
+returns-8 : tie.Need-returns-8
+returns-8 c =
+    let a = c .before .before .before .before .before .before .before .before .before .before .args in
+    rw (c .before .before .before .before .before .before .before .enum-told6 .given .1, c .before .before .before .before .before .enum-told7 .given .1)
+    (c .before .before .restore2 .ensures ∙ lift-same (a .g) (a .stripe .now) (solved-p-and-q (a .g .n)) ∙ sym (lift-same (a .g) (a .stripe .now) (q-and-p (a .g .n))))
+
+same-length-9 : tie.Need-same-length-9
+same-length-9 c = search needs
+
+returns-9 : tie.Need-returns-9
+returns-9 c =
+    let a = c .before .before .before .before .before .before .before .before .before .args in
+    rw (c .before .before .before .before .before .before .enum-told6 .given .1, c .before .before .before .before .enum-told8 .given .1) (c .before .before .restore-one2 .ensures ∙ sym (lift-same (a .g) (a .stripe .now) (q-and-q (a .g .n))))
 
 pub restore-two-spec : {M : Type 1} → statement M
 restore-two-spec =
     tie.close
     (tie.spec
-    Inv-loop
-    μ-loop
-    role-requires
-    role-requires-2
-    loop-holds
-    two-requires
-    store-requires
-    store-requires-2
-    add-i
-    loop-less
-    loop-again
+    enum-known-first
+    enum-known-second
+    two-data-requires
+    enum-told
+    data-and-p-requires
+    enum-told-2
+    data-and-q-requires
+    enum-told-3
+    enum-known-second-2
+    data-and-p-requires-2
+    enum-told-4
+    restore-one-requires
+    enum-told-5
+    add-restore
+    restore-requires
+    enum-told-6
+    enum-known-second-3
+    data-and-q-requires-2
+    enum-told-7
+    add-restore-2
+    restore-requires-2
+    enum-told-8
+    restore-one-requires-2
     same-length
-    returns)
+    returns
+    same-length-2
+    returns-2
+    same-length-3
+    returns-3
+    same-length-4
+    returns-4
+    same-length-5
+    returns-5
+    same-length-6
+    returns-6
+    same-length-7
+    returns-7
+    same-length-8
+    returns-8
+    same-length-9
+    returns-9)

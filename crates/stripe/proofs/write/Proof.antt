@@ -53,7 +53,8 @@ adjust-requires : tie.Need-adjust-requires
 adjust-requires c κs =
     let a = c .before .before .before .before .before .before .before .before .before .before .before .args in (
       shape-whole (a .g) (length (a .stripe .now)) (sym (c .before .before .before .before .before .before .before .before .refusal .ensures) ∙ c .before .before .before .before .before .before .before .if1 .left) (a .stripe .now) refl,
-      record { known = c .before .before .before .before .before .if2 .left; fits = omega arith },
+      record { known = omega (arith, c .before .before .before .before .before .if2 .left); fits = omega arith },
+      c .before .before .before .before .before .if2 .left,
     )
 
 set-stretch-requires : tie.Need-set-stretch-requires
@@ -64,9 +65,10 @@ set-stretch-requires c κs =
         disks = whole .disks;
         block = whole .block;
         some = whole .some;
+        disk = whole .disk;
         whole = ap length (c .before .before .before .adjust .ensures) ∙ length-lift (a .g) (λ i e. choose (covers (a .offset) (length (a .new .now)) i) (adjustColumn reedSolomon (a .g .n) (a .disk) (getD (a .new .now) (i - a .offset) 0) e) e) (a .stripe .now) ∙ whole .whole;
       },
-      record { known = c .before .before .before .before .before .before .before .before .before .if2 .left; fits = omega (arith, c .before .before .before .before .before .before .before .if3 .left, c .before .before .before .before .before .if4 .left) },
+      record { known = omega (arith, c .before .before .before .before .before .before .before .before .before .if2 .left); fits = omega (arith, c .before .before .before .before .before .before .before .if3 .left, c .before .before .before .before .before .if4 .left) },
     )
 
 same-length : tie.Need-same-length
@@ -84,7 +86,7 @@ returns-5 c =
     (c .before .before .set-stretch .ensures
     ∙ ap (λ (l : List ℕ). spliced l (start (a .g) (a .disk) + a .offset) (a .new .now)) (c .before .before .before .before .before .before .adjust .ensures)
     ∙ write-in-two (a .g) (a .stripe .now) (a .disk) (a .offset) (a .new .now) (shape-whole (a .g) (length (a .stripe .now)) refusal (a .stripe .now) refl)
-    (record { known = c .before .before .before .before .before .before .before .before .before .before .before .before .if2 .left; fits = omega arith }))
+    (record { known = omega (arith, c .before .before .before .before .before .before .before .before .before .before .before .before .if2 .left); fits = omega arith }))
 
 pub write-spec : {M : Type 1} → statement M
 write-spec =

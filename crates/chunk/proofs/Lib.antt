@@ -1,0 +1,4 @@
+pub mod Places
+pub mod Zeros
+pub mod Digits
+pub mod Laws

@@ -1,0 +1,55 @@
+-- `stripe::fill_zero` meets its contract. The loop's invariant: the places below j hold 0. The measure is what is left.
+-- Assumes nothing.
+use mathlib.Core.Path.{refl}
+use Prim.Native.Nat.{_-_, _≤_}
+use native.Mathlib.Omega.{arith}
+use lib.ListN.{length}
+use Rattle.stripe.proofs.Filled.{Filled, filled-none, filled-more, filled-all}
+use Rattle.stripe.proofs.fill_zero.Statement.{statement}
+use Rattle.stripe.proofs.fill_zero.Tie as tie
+
+abbrev Inv-loop : tie.InvT-loop
+Inv-loop room₀ j₀ room j = (j ≤ length room₀) × Filled (λ j. 0) (length room₀) room j
+
+abbrev μ-loop : tie.MeasureT-loop
+μ-loop room₀ j₀ room j = length room₀ - j
+
+loop-holds : tie.Need-loop-holds Inv-loop μ-loop
+loop-holds c = (omega arith, filled-none refl)
+
+mul-room : tie.Need-mul-room Inv-loop μ-loop
+mul-room c = omega arith
+
+slice-write-room : tie.Need-slice-write-room Inv-loop μ-loop
+slice-write-room c = omega arith
+
+add-j : tie.Need-add-j Inv-loop μ-loop
+add-j c = omega arith
+
+loop-less : tie.Need-loop-less Inv-loop μ-loop
+loop-less c = omega arith
+
+loop-again : tie.Need-loop-again Inv-loop μ-loop
+loop-again c =
+    let l = c .before .loop in (omega arith, filled-more (l .inv .1) (omega arith) refl)
+
+same-length : tie.Need-same-length Inv-loop μ-loop
+same-length c = c .before .loop .inv .1 .long
+
+returns : tie.Need-returns Inv-loop μ-loop
+returns c = filled-all (c .before .loop .inv .1) (omega arith)
+
+pub fill-zero-spec : {M : Type 1} → statement M
+fill-zero-spec =
+    tie.close
+    (tie.spec
+    Inv-loop
+    μ-loop
+    loop-holds
+    mul-room
+    slice-write-room
+    add-j
+    loop-less
+    loop-again
+    same-length
+    returns)
