@@ -79,6 +79,7 @@ module _ (n x y : ℕ) where
 
   -- solving again changes nothing
   pub solved-again : (rule : Rule) (c : Column) → solved n x y rule (solved n x y rule c) ≡ solved n x y rule c
+  unfolding solved
   solved-again rule c =
       ap (λ (e : Column). answered rule (syndromeP n e) (syndromeQ reedSolomon n e) (solved n x y rule c))
       (fill-over true true known-x known-y x y 0 0 (bytes .first) (bytes .second) c (λ p. refl) (λ p. refl))
@@ -116,6 +117,7 @@ module _ (n x y : ℕ) where
   solved-emptied : (rule : Rule) (c : Column)
       → solved n x y rule c
       ≡ answered rule (sum (without x y c n) (parityP n (emptied n x (emptied n y c)))) (sum (without x y c (n + 1)) (parityQ reedSolomon n (emptied n x (emptied n y c)))) c
+  unfolding solved
   solved-emptied rule c = ap₂ (λ (p q : ℕ). answered rule p q c) (sym (rest-p c)) (sym (rest-q c))
 
 -- ---- what is solved is rebuilt
@@ -158,7 +160,7 @@ module _ (n : ℕ) where
 
   pub solved-two : (x y : ℕ) → x < n → y < n → (c : Column)
       → solved n x y (Mixed (coefficientA x y) (coefficientB x y)) c ≡ rebuildColumn reedSolomon n (Two (Data x) (Data y)) c
-  unfolding reedSolomon
+  unfolding reedSolomon solved
   solved-two x y p q c =
       simp (lt-ltb x (n + 2) (omega arith), lt-ltb y (n + 2) (omega arith), ne-eqb n x (omega arith), ne-eqb n y (omega arith), ne-eqb (n + 1) x (omega arith), ne-eqb (n + 1) y (omega arith))
 

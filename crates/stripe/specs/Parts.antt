@@ -96,7 +96,7 @@ abbrev pub solution : Rule → ℕ → ℕ → TwoBytes
 solution Plain p q = record { first = p; second = q }
 solution (Mixed a b) p q = record { first = sum (product a p) (product b q); second = sum p (sum (product a p) (product b q)) }
 
-abbrev pub solved : ℕ → ℕ → ℕ → Rule → Column → Column
+unfoldable pub solved : ℕ → ℕ → ℕ → Rule → Column → Column
 solved n x y rule c =
     let bytes = solution rule (syndromeP n (without x y c)) (syndromeQ reedSolomon n (without x y c)) in
     putRole n x (bytes .first) (putRole n y (bytes .second) c)

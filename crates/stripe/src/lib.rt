@@ -332,9 +332,9 @@ fn judge_places(n: usize, p: &[u8; 64], q: &[u8; 64], room: &mut [u16]) -> u16
     let mut found = 0;
     let mut j = 0;
     while j < 64 {
-        let verdict = judge(n, Element(p[j]), Element(q[j]));
-        room[j] = verdict;
-        found = first_nonzero(found, verdict);
+        let told = judge(n, Element(p[j]), Element(q[j]));
+        room[j] = told;
+        found = first_nonzero(found, told);
         j += 1;
     }
     found

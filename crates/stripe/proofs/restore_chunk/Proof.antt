@@ -26,6 +26,7 @@ filled : (g : Geometry) (i x y : ℕ) (rule : Rule) {s t u : List ℕ} (first se
     → Passed g i (λ j c. putRole (g .n) x (getD first j 0) (putRole (g .n) y (getD second j 0) c)) t u
     → ((j : ℕ) → j < 64 → Fills (solution rule (syndromeP (g .n) (without x y (column g s (i + j)))) (syndromeQ reedSolomon (g .n) (without x y (column g s (i + j))))) (getD first j 0) (getD second j 0))
     → Passed g i (λ j c. solved (g .n) x y rule c) s u
+unfolding solved
 filled g i x y rule {s} first second empty full fills =
     passed-as g i (passed-then g i empty full)
     (λ j p.

@@ -57,6 +57,7 @@ loop-less : tie.Need-loop-less Inv-loop μ-loop
 loop-less c = omega arith
 
 loop-again : tie.Need-loop-again Inv-loop μ-loop
+unfolding solved
 loop-again c =
     let here = c .before .before .before .before .before .before .before .before .before .before .before .before .before .before in
     let a = here .args in
