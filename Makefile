@@ -23,8 +23,11 @@ job: toolchain
 example: job
 	@printf 'SRJ\0\1\2\0\2\0\1\0\0\0\1\0\0\201\34' | target/bin/shelf_job | od -An -tx1
 
-# How fast the library is, beside a plain encoder in Rust and, where it is installed, ISA-L. It installs nothing.
+# How fast the library is, beside a plain encoder in Rust and, where they are installed, ISA-L and Linux's sources. It installs
+# nothing. The check isn't among what C calls, so the bench has its own library, target/staticlib/libgauge.a.
 bench: lib
+	rt staticlib gauge
+	bench/linux
 	cd bench && cargo run --quiet --release --offline --locked
 
 # Where installed files go. DESTDIR, if given, stands before PREFIX for a staged copy, and no file mentions it.

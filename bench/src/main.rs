@@ -1,10 +1,13 @@
-//! Measures libshelf.a beside a plain encoder in Rust and, where it is installed, ISA-L.
+//! Measures libshelf.a, and the library's check, beside a plain encoder in Rust and, where they are there, ISA-L and
+//! Linux's rebuild of two data disks.
 //!
 //!     bench                 the table of ratios
 //!     bench --stack         the bytes of stack that each call uses
 //!     bench --plot FILE     how the time of an encode grows with n and B, as SVG
 
 mod isal;
+mod library;
+mod linux;
 mod measure;
 mod plain;
 mod plot;
@@ -13,6 +16,7 @@ mod stack;
 mod table;
 
 use isal::Isal;
+use linux::Linux;
 use outside::random::Random;
 use outside::stripe::{self, NONE, P, Q};
 use shelf::Stripe;
@@ -20,7 +24,7 @@ use shelf::Stripe;
 fn main() {
     let words: Vec<String> = std::env::args().skip(1).collect();
     match words.iter().map(String::as_str).collect::<Vec<_>>()[..] {
-        [] => table::print(Isal::find()),
+        [] => table::print(Isal::find(), Linux::find()),
         ["--stack"] => stack::print(),
         ["--plot", file] => std::fs::write(file, plot::svg()).unwrap_or_else(|e| panic!("{file}: {e}")),
         _ => {
@@ -43,8 +47,17 @@ fn two_disks(n: usize) -> (u64, u64) {
     (first as u64, (2 * n / 3).max(first + 1) as u64)
 }
 
+/// Holds the check to the independent implementation, on what the stripe holds.
+fn verify_check(mut stripe: Stripe) {
+    let (n, b) = (stripe.n as u64, stripe.b as u64);
+    let wanted = stripe::check(n, b, stripe.bytes()).expect("a stripe has its length");
+    let first = wanted.iter().copied().find(|&verdict| verdict != 0);
+    let right = stripe.check() == first.unwrap_or(0) && stripe.verdicts() == wanted;
+    assert!(right, "check is wrong; n {n}, B {b}");
+}
+
 /// Holds every contestant to the independent implementation, and leaves the stripe encoded.
-fn verify(random: &mut Random, mut stripe: Stripe, isal: Option<&isal::Call>) {
+fn verify(random: &mut Random, mut stripe: Stripe, isal: Option<isal::Call>, linux: Option<linux::Call>) {
     let (n, b) = (stripe.n as u64, stripe.b as u64);
     let mut expected = stripe.bytes().to_vec();
     assert_eq!(stripe::encode(n, b, &mut expected), 0);
@@ -64,7 +77,10 @@ fn verify(random: &mut Random, mut stripe: Stripe, isal: Option<&isal::Call>) {
     }
     stripe.encode();
     same(&mut stripe, "encode", &expected);
-    for (first, second) in [two_disks(stripe.n), (two_disks(stripe.n).0, NONE), (P, NONE), (Q, NONE)] {
+    // the parities are noise here
+    verify_check(stripe);
+    let (first, second) = two_disks(stripe.n);
+    for (first, second) in [(first, second), (first, NONE), (P, NONE), (Q, NONE)] {
         let mut wanted = stripe.bytes().to_vec();
         // a stripe of one data disk can't lose two
         if stripe::rebuild(n, b, &mut wanted, first, second) == 0 {
@@ -73,8 +89,24 @@ fn verify(random: &mut Random, mut stripe: Stripe, isal: Option<&isal::Call>) {
         }
         stripe.bytes().copy_from_slice(&expected);
     }
+    verify_check(stripe);
+    // a wrong byte on each device
+    for (device, block) in stripe.bytes().chunks_exact_mut(b as usize).enumerate() {
+        block[device % b as usize] ^= 0x40;
+    }
+    verify_check(stripe);
+    stripe.bytes().copy_from_slice(&expected);
+    if let Some(call) = linux {
+        for (disk, block) in (0..).zip(stripe.bytes().chunks_exact_mut(b as usize)) {
+            if disk == first || disk == second {
+                block.fill(0);
+            }
+        }
+        call.rebuild(first, second);
+        assert!(stripe.bytes() == expected, "Linux's rebuild of {first} and {second} is wrong; n {n}, B {b}");
+    }
     let bytes = random.bytes(stripe.b);
-    assert_eq!(stripe::write(n, b, &mut expected, 0, 0, &bytes), 0);
-    stripe.write(0, &bytes);
+    assert_eq!(stripe::write(n, b, &mut expected, n - 1, 0, &bytes), 0);
+    stripe.write(n - 1, &bytes);
     assert!(stripe.bytes() == expected, "write is wrong; n {n}, B {b}");
 }

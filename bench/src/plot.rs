@@ -29,7 +29,7 @@ fn times(shapes: &[(usize, usize)]) -> Vec<f64> {
     let mut random = Random::new(4);
     let mut stripe = |&(n, b): &(usize, usize)| {
         let stripe = Stripe::random(&mut random, n, b);
-        verify(&mut random, stripe, None);
+        verify(&mut random, stripe, None, None);
         move || stripe.encode()
     };
     let calls: Vec<_> = shapes.iter().map(&mut stripe).collect();

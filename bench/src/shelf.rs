@@ -1,8 +1,9 @@
-//! Calls of libshelf.a on a stripe that stays in one place, so that each contestant works on the same
-//! bytes.
+//! Calls of libshelf.a, and of libgauge.a for the check, on a stripe that stays in one place, so that each contestant
+//! works on the same bytes.
 
 use outside::random::Random;
 use std::alloc::{alloc_zeroed, Layout};
+use std::ffi::c_void;
 
 /// The largest block.
 pub const BLOCK: usize = 4096;
@@ -15,19 +16,29 @@ extern "C" {
     pub fn shelf_rebuild(n: u64, b: u64, stripe: *mut u8, stripe_len: usize, first: u64, second: u64) -> u8;
 }
 
+#[link(name = "gauge", kind = "static")]
+extern "C" {
+    pub fn gauge_check(n: u64, b: u64, stripe: *const u8, stripe_len: usize, verdicts: *mut u16, count: usize) -> u16;
+}
+
+/// What gauge_check returns is a refusal from this number on.
+pub const REFUSAL: u16 = 512;
+
 /// A stripe by its pointer: calls through it may follow one another in any order.
 #[derive(Clone, Copy)]
 pub struct Stripe {
     pub n: usize,
     pub b: usize,
     pub start: *mut u8,
+    /// Where its check puts a verdict for each column.
+    pub room: *mut u16,
 }
 
 impl Stripe {
     /// Random bytes that begin on a page, in memory that is never given back.
     pub fn random(random: &mut Random, n: usize, b: usize) -> Stripe {
         let layout = Layout::from_size_align((n + 2) * b, PAGE).expect("a stripe is small");
-        let mut stripe = Stripe { n, b, start: unsafe { alloc_zeroed(layout) } };
+        let mut stripe = Stripe { n, b, start: unsafe { alloc_zeroed(layout) }, room: vec![0; b].leak().as_mut_ptr() };
         assert!(!stripe.start.is_null(), "no memory for a stripe");
         let bytes = random.bytes(stripe.length());
         stripe.bytes().copy_from_slice(&bytes);
@@ -46,6 +57,16 @@ impl Stripe {
         unsafe { std::slice::from_raw_parts_mut(self.start, self.length()) }
     }
 
+    pub fn verdicts(&self) -> &[u16] {
+        unsafe { std::slice::from_raw_parts(self.room, self.b) }
+    }
+
+    /// The places of its blocks, for functions that take these; never given back.
+    pub fn places(&self) -> *mut *mut c_void {
+        let place = |k: usize| unsafe { self.start.add(k * self.b) }.cast();
+        (0..self.n + 2).map(place).collect::<Vec<_>>().leak().as_mut_ptr()
+    }
+
     fn done(&self, result: u8) {
         assert_eq!(result, 0, "refused; n {}, B {}", self.n, self.b);
     }
@@ -61,5 +82,12 @@ impl Stripe {
     pub fn write(&self, disk: u64, bytes: &[u8]) {
         let (n, b) = (self.n as u64, self.b as u64);
         self.done(unsafe { shelf_write(n, b, self.start, self.length(), disk, 0, bytes.as_ptr(), bytes.len()) });
+    }
+
+    /// The first verdict that isn't 0, or 0.
+    pub fn check(&self) -> u16 {
+        let result = unsafe { gauge_check(self.n as u64, self.b as u64, self.start, self.length(), self.room, self.b) };
+        assert!(result < REFUSAL, "refused; n {}, B {}", self.n, self.b);
+        result
     }
 }

@@ -1,6 +1,6 @@
 //! How much stack a call uses: it runs on a painted stack of its own, and what it wrote to is counted.
 
-use crate::shelf::{shelf_encode, shelf_rebuild, shelf_write, Stripe};
+use crate::shelf::{gauge_check, shelf_encode, shelf_rebuild, shelf_write, Stripe, REFUSAL};
 use outside::random::Random;
 use outside::stripe::{NONE, P, Q};
 use std::arch::asm;
@@ -11,8 +11,8 @@ const ROOM: usize = 1 << 16;
 struct Room([u8; ROOM]);
 
 /// Calls a function of C with eight numbers: six in registers and two at the top of the stack. Returns
-/// the bytes of stack that it wrote to below them, its return address among them.
-fn used(function: usize, arguments: [u64; 8], paint: u8) -> usize {
+/// its result, and the bytes of stack that it wrote to below them, its return address among them.
+fn used(function: usize, arguments: [u64; 8], paint: u8) -> (u64, usize) {
     let mut room = Box::new(Room([paint; ROOM]));
     let top = ROOM - 16;
     room.0[top..top + 8].copy_from_slice(&arguments[6].to_ne_bytes());
@@ -30,17 +30,20 @@ fn used(function: usize, arguments: [u64; 8], paint: u8) -> usize {
             clobber_abi("C"),
         );
     }
-    assert_eq!(result as u8, 0, "refused");
-    top - room.0.iter().position(|&byte| byte != paint).expect("a call writes its return address")
+    (result, top - room.0.iter().position(|&byte| byte != paint).expect("a call writes its return address"))
 }
 
-/// The most over two paints and some shapes.
-fn most(calls: impl Fn(Stripe) -> Vec<(usize, [u64; 8])>) -> usize {
+/// The most over two paints and some shapes, of calls that are done.
+fn most(done: impl Fn(u64) -> bool, calls: impl Fn(Stripe) -> Vec<(usize, [u64; 8])>) -> usize {
     let mut random = Random::new(2);
     let mut most = 0;
     for (n, b) in [(1, 1), (2, 7), (8, 4096), (255, 4096)] {
         for (function, arguments) in calls(Stripe::random(&mut random, n, b)) {
-            most = [0x5a, 0xc3].map(|paint| used(function, arguments, paint)).into_iter().fold(most, usize::max);
+            for paint in [0x5a, 0xc3] {
+                let (result, bytes) = used(function, arguments, paint);
+                assert!(done(result), "refused; n {n}, B {b}");
+                most = most.max(bytes);
+            }
         }
     }
     most
@@ -53,17 +56,24 @@ pub fn print() {
         [n, b, start, length, rest[0], rest[1], rest[2], rest[3]]
     };
     let bytes = Random::new(3).bytes(4096);
-    let encode = most(|stripe| vec![(shelf_encode as *const () as usize, call(stripe, [0; 4]))]);
-    let write = most(|stripe| vec![(shelf_write as *const () as usize, call(stripe, [0, 0, bytes.as_ptr() as u64, stripe.b as u64]))]);
-    let rebuild = most(|stripe| {
+    let zero = |result: u64| result as u8 == 0;
+    let encode = most(zero, |stripe| vec![(shelf_encode as *const () as usize, call(stripe, [0; 4]))]);
+    let write = most(zero, |stripe| {
+        let last = stripe.n as u64 - 1;
+        vec![(shelf_write as *const () as usize, call(stripe, [last, 0, bytes.as_ptr() as u64, stripe.b as u64]))]
+    });
+    let rebuild = most(zero, |stripe| {
         let devices = [0, stripe.n as u64 - 1, P, Q];
         let pairs = devices.into_iter().flat_map(|first| devices.into_iter().chain([NONE]).map(move |second| (first, second)));
         let pairs = pairs.filter(|(first, second)| first != second);
         pairs.map(|(first, second)| (shelf_rebuild as *const () as usize, call(stripe, [first, second, 0, 0]))).collect()
     });
+    // random bytes, so that the check finds differences
+    let told = |result: u64| (result as u16) < REFUSAL;
+    let check = most(told, |stripe| vec![(gauge_check as *const () as usize, call(stripe, [stripe.room as u64, stripe.b as u64, 0, 0]))]);
     println!("| call | bytes of stack |");
     println!("|---|---|");
-    for (name, most) in [("shelf_encode", encode), ("shelf_write", write), ("shelf_rebuild", rebuild)] {
+    for (name, most) in [("shelf_encode", encode), ("shelf_write", write), ("shelf_rebuild", rebuild), ("gauge_check", check)] {
         println!("| `{name}` | {most} |");
     }
 }

@@ -1,6 +1,7 @@
 //! The table of ratios.
 
 use crate::isal::Isal;
+use crate::linux::Linux;
 use crate::measure::{best, TURN, TURNS};
 use crate::shelf::{Stripe, BLOCK};
 use crate::{plain, processor, two_disks, verify};
@@ -9,16 +10,16 @@ use outside::stripe::{NONE, P, Q};
 use std::cell::Cell;
 
 const PLAIN: &str = "plain Rust encode";
-const GENERATE: &str = "ISA-L pq_gen_sse";
-const CHECK: &str = "ISA-L pq_check_sse";
+const GENERATE: &str = "pq_gen_sse";
+const CHECK: &str = "pq_check_sse";
+const DATA2: &str = "Linux data2";
 
-/// What a call's rate is to be: at least so much of a peer's.
+/// What a call's rate is to be: at least so much of another's.
 enum Target {
-    Isal(f64),
+    /// A peer's, at the same n and B.
+    Of(f64, &'static str),
     /// The library's own encode at n = 8, B = 4,096.
     Own(f64),
-    /// Linux's rebuild of two data disks, which is not measured here.
-    Linux,
     /// None: the call is itself a peer.
     Peer,
 }
@@ -41,18 +42,20 @@ impl Row {
 }
 
 /// The rows of one shape, over one stripe, each found right.
-fn rows(random: &mut Random, isal: Option<Isal>, n: usize, b: usize) -> Vec<Row> {
+fn rows(random: &mut Random, isal: Option<Isal>, linux: Option<Linux>, n: usize, b: usize) -> Vec<Row> {
     let stripe = Stripe::random(random, n, b);
     let isal = isal.and_then(|isal| isal.on(stripe));
-    verify(random, stripe, isal.as_ref());
+    let linux = linux.and_then(|linux| linux.on(stripe));
+    verify(random, stripe, isal, linux);
     let (first, second) = two_disks(n);
 
     let mut rows = vec![];
     let mut add = |call, target, run| rows.push(Row { call, n, b, target, run, seconds: f64::NAN });
-    let whole = if b == BLOCK { Target::Isal(0.95) } else { Target::Own(0.9) };
+    let whole = if b == BLOCK { Target::Of(0.95, GENERATE) } else { Target::Own(0.9) };
     add("encode", whole, Box::new(move || stripe.encode()));
     if b == BLOCK {
-        add("rebuild of two data disks", Target::Linux, Box::new(move || stripe.rebuild(first, second)));
+        add("check of a clean stripe", Target::Of(0.6, CHECK), Box::new(move || assert_eq!(stripe.check(), 0)));
+        add("rebuild of two data disks", Target::Of(1.0, DATA2), Box::new(move || stripe.rebuild(first, second)));
     }
     if (n, b) == (8, BLOCK) {
         for (call, device) in [("rebuild of one data disk", first), ("rebuild of P", P), ("rebuild of Q", Q)] {
@@ -63,28 +66,34 @@ fn rows(random: &mut Random, isal: Option<Isal>, n: usize, b: usize) -> Vec<Row>
         let turn = Cell::new(0);
         let write = move || {
             turn.set(1 - turn.get());
-            stripe.write(first, &contents[turn.get()]);
+            stripe.write(n as u64 - 1, &contents[turn.get()]);
         };
-        add("write of 4,096 bytes", Target::Own(1.0), Box::new(write));
+        add("write of 4,096 bytes, last data disk", Target::Own(1.0), Box::new(write));
     }
     add(PLAIN, Target::Peer, Box::new(move || plain::encode(n, b, { stripe }.bytes())));
     if let Some(call) = isal {
-        let other = call.clone();
         add(GENERATE, Target::Peer, Box::new(move || call.encode()));
-        add(CHECK, Target::Peer, Box::new(move || assert!(other.finds_clean())));
+        add(CHECK, Target::Peer, Box::new(move || assert!(call.finds_clean())));
+    }
+    if let Some(call) = linux {
+        add(DATA2, Target::Peer, Box::new(move || call.rebuild(first, second)));
     }
     rows
 }
 
 /// The row's rate as a part of another's.
-fn ratio(row: &Row, peer: Option<&Row>) -> String {
-    peer.map_or("-".to_string(), |peer| format!("{:.3}", row.rate() / peer.rate()))
+fn ratio(row: &Row, other: Option<&Row>) -> Option<f64> {
+    other.map(|other| row.rate() / other.rate())
 }
 
-pub fn print(isal: Option<Isal>) {
+fn shown(ratio: Option<f64>) -> String {
+    ratio.map_or("-".to_string(), |ratio| format!("{ratio:.3}"))
+}
+
+pub fn print(isal: Option<Isal>, linux: Option<Linux>) {
     let mut random = Random::new(1);
     let shapes = [(8, BLOCK), (8, BLOCK - 1), (16, BLOCK), (255, BLOCK)];
-    let mut rows: Vec<Row> = shapes.into_iter().flat_map(|(n, b)| rows(&mut random, isal, n, b)).collect();
+    let mut rows: Vec<Row> = shapes.into_iter().flat_map(|(n, b)| rows(&mut random, isal, linux, n, b)).collect();
     let seconds = best(TURNS, &rows.iter().map(|row| &*row.run).collect::<Vec<_>>());
     for (row, seconds) in rows.iter_mut().zip(seconds) {
         row.seconds = seconds;
@@ -98,19 +107,30 @@ pub fn print(isal: Option<Isal>) {
     println!("Each result was first found equal to that of the independent implementation.");
     println!("Each stripe holds random bytes, begins on a page and is the same for all calls of its n and B. Buffers were not");
     println!("cleared first, and a stripe stays in the caches between calls as far as it fits.");
-    println!("ISA-L: {}.", if isal.is_some() { "found" } else { "not installed, so its ratios are missing" });
+    let found = |found: bool| if found { "found" } else { "not found, so its ratios are missing" };
+    println!("ISA-L, with pq_gen_sse and pq_check_sse: {}.", found(isal.is_some()));
+    println!("Linux's lib/raid6, with data2, from the package linux-source: {}.", found(linux.is_some()));
     println!();
-    println!("| call | n | B | microseconds | MB/s of data | to plain Rust | to pq_gen_sse | wanted | reached |");
-    println!("|---|---|---|---|---|---|---|---|---|");
-    for r in rows.iter().filter(|row| !matches!(row.target, Target::Peer)) {
-        let (plain, generate, own) = (row(PLAIN, r.n, r.b), row(GENERATE, r.n, r.b), row("encode", 8, BLOCK));
-        let (wanted, reached) = match r.target {
-            Target::Isal(least) => (format!("{least:.2} of pq_gen_sse"), ratio(r, generate)),
-            Target::Own(least) => (format!("{least:.2} of encode at n = 8, B = 4096"), ratio(r, own)),
-            _ => ("1.00 of Linux data2".to_string(), "not measured".to_string()),
+    println!("| call | n | B | microseconds | MB/s of data | to plain Rust | to pq_gen_sse | wanted | reached | enough |");
+    println!("|---|---|---|---|---|---|---|---|---|---|");
+    let (mut enough, mut compared) = (0, 0);
+    for r in &rows {
+        let (least, other, of) = match r.target {
+            Target::Of(least, peer) => (least, row(peer, r.n, r.b), peer),
+            Target::Own(least) => (least, row("encode", 8, BLOCK), "encode at n = 8, B = 4096"),
+            Target::Peer => continue,
         };
+        let reached = ratio(r, other);
+        let answer = match reached.map(|reached| reached >= least) {
+            Some(true) => "yes",
+            Some(false) => "no",
+            None => "-",
+        };
+        enough += usize::from(answer == "yes");
+        compared += usize::from(answer != "-");
+        let [plain, generate] = [PLAIN, GENERATE].map(|peer| shown(ratio(r, row(peer, r.n, r.b))));
         print!("| {} | {} | {} | {:.2} | {:.0} ", r.call, r.n, r.b, r.seconds * 1e6, r.rate() / 1e6);
-        println!("| {} | {} | {wanted} | {reached} |", ratio(r, plain), ratio(r, generate));
+        println!("| {plain} | {generate} | {least:.2} of {of} | {} | {answer} |", shown(reached));
     }
     println!();
     println!("| peer | n | B | microseconds | MB/s of data |");
@@ -120,5 +140,5 @@ pub fn print(isal: Option<Isal>) {
     }
     println!();
     println!("A call's data are n * B bytes, for a write too, so that its ratio is that of the times; 1 MB is 1,000,000 bytes.");
-    println!("Left out: the library's check, which is not exported to C, and Linux lib/raid6, which is kernel code.");
+    println!("Of the {compared} rows whose peer was measured, {enough} reach what is wanted.");
 }

@@ -10,7 +10,7 @@ use lib.ListN.{length, getD}
 use Rattle.stripe.specs.declared.Geometry.{Geometry}
 use Rattle.stripe.specs.Choice.{choose}
 use Rattle.stripe.specs.Column.{Column, put}
-use Rattle.stripe.specs.Stripe.{start, column, covers}
+use Rattle.stripe.specs.Stripe.{start, column}
 use Rattle.stripe.specs.Parts.{Whole, Stretch, Passed, spliced}
 use Rattle.stripe.proofs.Stretch.{covered, before-stretch, after-stretch, length-spliced, spliced-column}
 use Rattle.stripe.proofs.Inside.{stretch-inside}

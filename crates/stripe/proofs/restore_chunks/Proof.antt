@@ -1,6 +1,6 @@
 -- `stripe::restore_chunks` meets its contract. The loop's invariant: the columns below i are restored. The measure is what is left of B.
 -- Assumes nothing.
-use mathlib.Core.Path.{_≡_, refl, _∙_}
+use mathlib.Core.Path.{refl}
 use mathlib.Core.Logic.{⊎-elim}
 use Prim.Native.Nat.{ℕ, _+_, _-_, _≤_, _<_}
 use native.Mathlib.Omega.{arith}

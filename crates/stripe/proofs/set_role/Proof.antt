@@ -1,12 +1,12 @@
 -- `stripe::set_role` meets its contract: a role of the stripe has its block, and any other is left alone.
 -- Assumes nothing.
-use mathlib.Core.Path.{_≡_, sym, subst}
+use mathlib.Core.Path.{sym, subst}
 use mathlib.Core.List.{List}
-use Prim.Native.Nat.{ℕ, _+_, _≤_}
+use Prim.Native.Nat.{ℕ, _+_}
 use native.Mathlib.Omega.{arith}
 use borrow.Author.Needs.{needs}
 use borrow.Author.Tests.{lt-ltb, le-ltb}
-use lib.ListN.{length, getD}
+use lib.ListN.{getD}
 use Rattle.stripe.proofs.Passed.{passed-none, passed-as, passed-set}
 use Rattle.stripe.specs.Parts.{Passed, putRole}
 use Rattle.stripe.proofs.set_role.Statement.{statement}

@@ -1,0 +1,5 @@
+//! Links anew where the check for the bench changed.
+
+fn main() {
+    println!("cargo:rerun-if-changed=../target/staticlib/libgauge.a");
+}
