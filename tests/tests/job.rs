@@ -207,6 +207,23 @@ fn every_shape() {
     }
 }
 
+/// One wrong byte in each column in turn, in chunks of 64 columns and in what is left.
+#[test]
+fn every_column_spoiled() {
+    let mut random = Random::new(3);
+    let n = 3;
+    for b in [63, 64, 65, 130] {
+        let mut stripe = random.bytes(((n + 2) * b) as usize);
+        encode_and_spoil(&mut random, n, b, &mut stripe, 0);
+        for column in 0..b {
+            let at = (random.within(0, n as usize + 1) as u64 * b + column) as usize;
+            stripe[at] ^= 0x40;
+            compare(&format!("b {b}, column {column}"), &Header::new(CHECK, n as u16, b as u16, NONE, NONE).with(&stripe));
+            stripe[at] ^= 0x40;
+        }
+    }
+}
+
 #[test]
 fn ten_thousand_random_jobs() {
     trials(10_000, |random| {

@@ -162,11 +162,41 @@ fn every_pair_of_losses_up_to_eight_disks() {
 #[test]
 fn every_data_pair_of_the_widest_stripe() {
     let mut random = Random::new(3);
-    let mut encoded = random_stripe(&mut random, 255, 1);
-    assert_eq!(Call::Encode.compare(255, 1, &mut encoded), 0);
-    for first in 0..255 {
-        for second in 0..first {
-            recover(&mut random, 255, 1, &encoded, &Call::Rebuild { first, second });
+    for b in [1, 64] {
+        let mut encoded = random_stripe(&mut random, 255, b);
+        assert_eq!(Call::Encode.compare(255, b, &mut encoded), 0);
+        for first in 0..255 {
+            for second in 0..first {
+                recover(&mut random, 255, b, &encoded, &Call::Rebuild { first, second });
+            }
+        }
+    }
+}
+
+/// Blocks of no chunk of 64 bytes, of one, of some, and of some and a part of one.
+#[test]
+fn every_block_size_up_to_three_chunks() {
+    let mut random = Random::new(8);
+    let n = 3;
+    for b in 1..=193 {
+        let mut stripe = random_stripe(&mut random, n, b);
+        for (first, second) in [(1, NONE), (P, NONE), (Q, NONE), (1, P), (1, Q), (P, Q), (0, 2)] {
+            assert_eq!(Call::Rebuild { first, second }.compare(n, b, &mut stripe), 0);
+        }
+        assert_eq!(random_write(&mut random, n, b).compare(n, b, &mut stripe), 0);
+        assert_eq!(Call::Encode.compare(n, b, &mut stripe), 0);
+    }
+}
+
+#[test]
+fn stretches_that_begin_and_end_about_a_chunk() {
+    let mut random = Random::new(9);
+    let (n, b) = (3, 130);
+    let mut stripe = random_stripe(&mut random, n, b);
+    for offset in [0, 1, 2, 63, 64, 65, 66, 67, 129, 130] {
+        for count in 0..=b - offset {
+            let (disk, bytes) = (count % n, random.bytes(count as usize));
+            assert_eq!(Call::Write { disk, offset, bytes }.compare(n, b, &mut stripe), 0);
         }
     }
 }
