@@ -26,6 +26,7 @@ example: job
 # How fast the library is, beside a plain encoder in Rust and, where they are installed, ISA-L and Linux's sources. It installs
 # nothing. The check isn't among what C calls, so the bench has its own library, target/staticlib/libgauge.a.
 bench: lib
+	@command -v cargo >/dev/null || { echo 'cargo is missing: it is not on PATH' >&2; exit 2; }
 	rt staticlib gauge
 	bench/linux
 	cd bench && cargo run --quiet --release --offline --locked

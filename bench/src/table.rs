@@ -109,7 +109,7 @@ pub fn print(isal: Option<Isal>, linux: Option<Linux>) {
     println!("cleared first, and a stripe stays in the caches between calls as far as it fits.");
     let found = |found: bool| if found { "found" } else { "not found, so its ratios are missing" };
     println!("ISA-L, with pq_gen_sse and pq_check_sse: {}.", found(isal.is_some()));
-    println!("Linux's lib/raid6, with data2, from the package linux-source: {}.", found(linux.is_some()));
+    println!("Linux's lib/raid6 from the package linux-source, data2 of raid6_recov_ssse3 over raid6_sse2x4: {}.", found(linux.is_some()));
     println!();
     println!("| call | n | B | microseconds | MB/s of data | to plain Rust | to pq_gen_sse | wanted | reached | enough |");
     println!("|---|---|---|---|---|---|---|---|---|---|");
@@ -140,5 +140,5 @@ pub fn print(isal: Option<Isal>, linux: Option<Linux>) {
     }
     println!();
     println!("A call's data are n * B bytes, for a write too, so that its ratio is that of the times; 1 MB is 1,000,000 bytes.");
-    println!("Of the {compared} rows whose peer was measured, {enough} reach what is wanted.");
+    println!("Of the {compared} rows that could be compared, {enough} reach what is wanted.");
 }

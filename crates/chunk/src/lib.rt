@@ -1,6 +1,6 @@
-// Sums and products of 64 bytes of a block at once, place by place. Every loop has a fixed length,
-// so that it becomes vector code. What a function writes it first lends as a slice, which compiles
-// to nothing: it tells the proof that there are 64 bytes.
+// Sums and products of 64 bytes of a block at once, place by place. A loop over the places has a
+// fixed length, so that it becomes vector code. What a function writes it first lends as a slice,
+// which compiles to nothing: it tells the proof that there are 64 bytes.
 use gf256::Element;
 ghost use mathlib.Core.Path.{_≡_};
 ghost use lib.ListN.{getD};

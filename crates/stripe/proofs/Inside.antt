@@ -18,11 +18,11 @@ place-inside g s i r p sound hr e =
     subst (λ (q : ℕ). q + i < length s) (sym e)
     (subst (λ (n : ℕ). start g r + i < n) (sym (sound .whole)) (within g (sound .inside) hr))
 
-pub stretch-inside : (g : Geometry) (s : List ℕ) (disk offset count p : ℕ) → Whole g s → Stretch g disk offset count → p ≡ start g disk
+pub stretch-inside : (g : Geometry) (s : List ℕ) (role offset count p : ℕ) → Whole g s → Stretch g role offset count → p ≡ start g role
     → p + offset + count ≤ length s
-stretch-inside g s disk offset count p whole stretch e =
-    let ends = block-end g disk in
-    let below = start-mono g {r = suc disk} {t = g .n + 2} (omega (arith, stretch .known)) in
+stretch-inside g s role offset count p whole stretch e =
+    let ends = block-end g role in
+    let below = start-mono g {r = suc role} {t = g .n + 2} (omega (arith, stretch .known)) in
     let last = start-end g in
     omega (arith, stretch .fits, whole .whole)
 

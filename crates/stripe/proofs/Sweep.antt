@@ -1,5 +1,5 @@
 -- A loop that goes through the columns in order: those passed are new, the others old. Within a turn the column in hand is changed by
--- stores. Five laws serve every such loop: none passed, a column taken in hand, a store in it, one more passed, and all.
+-- stores. The laws of such a loop: none passed, a column taken in hand, a store in it, one more passed, and all.
 -- Assumes nothing.
 use mathlib.Core.Path.{_≡_, refl, sym, ap, subst, _∙_}
 use mathlib.Core.Logic.{_⊎_, inl, inr, ⊎-elim}

@@ -7,7 +7,7 @@ use native.Mathlib.Omega.{arith}
 use Rattle.gf256.specs.Field.{sum}
 use Rattle.gf256.proofs.Laws.{sum-self, zero-sum, sum-zero}
 use Rattle.stripe.specs.Column.{Column, put, total}
-use Rattle.stripe.proofs.Put.{put-same, put-other, by-role, put-twice}
+use Rattle.stripe.proofs.Put.{put-same, put-other, by-role}
 use Rattle.stripe.proofs.Total.{total-same, total-sum, total-none, total-only}
 
 abbrev pub Additive : (ℕ → ℕ → ℕ) → Type 0
@@ -49,8 +49,3 @@ module _ (t : ℕ → ℕ → ℕ) (add : Additive t) (n : ℕ) where
 
   pub weighted-outside : (c : Column) (d v : ℕ) → n ≤ d → weighted t n (put d v c) ≡ weighted t n c
   weighted-outside c d v h = total-same n (λ k p. ap (t k) (put-other d v c k (omega arith)))
-
-  -- the sum with disk x as 00, and then with its symbol
-  pub weighted-more : (c : Column) (x v rest : ℕ) → x < n → rest ≡ weighted t n (put x 0 (put x 0 c)) → sum rest (t x v) ≡ weighted t n (put x v c)
-  weighted-more c x v rest h e =
-      ap (λ (s : ℕ). sum s (t x v)) (e ∙ ap (weighted t n) (put-twice x 0 0 c)) ∙ sym (weighted-put c x v h)

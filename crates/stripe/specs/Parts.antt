@@ -54,8 +54,8 @@ adjusted g disk offset new s =
     s
 
 -- a stretch of a role's block that count bytes from an offset on fill
-pub record Stretch (g : Geometry) (disk offset count : ℕ) : Type 0 where
-  pub known : disk < g .n + 2
+pub record Stretch (g : Geometry) (role offset count : ℕ) : Type 0 where
+  pub known : role < g .n + 2
   pub fits : offset + count ≤ g .b
 
 -- a list with m in the place of what stood from a on

@@ -53,14 +53,14 @@ pub enum Checked {
 // Two bytes of one column.
 struct Pair(u8, u8);
 
-// Both sums of a chunk, which is 64 columns: place j is column i + j of a chunk that begins at i.
+// Both sums of 64 columns: place j belongs to column i + j where they begin at i.
 struct Sums {
     p: [u8; 64],
     q: [u8; 64],
 }
 
-// How the bytes of two lost roles come from the two sums over the others: as they are, or the first
-// by two coefficients and the second as the rest of the first sum.
+// How the lost bytes come from the two sums over the other devices: as they are, or the first by two
+// coefficients and the second as the rest of the first sum.
 enum Rule {
     Plain,
     Mixed(u8, u8),
@@ -102,11 +102,11 @@ pub fn write(g: Geometry, stripe: &mut [u8], disk: usize, offset: usize, new: &[
 }
 
 // Only the stretch is lent on, so that nothing around it can change.
-fn set_stretch(g: Geometry, stripe: &mut [u8], disk: usize, offset: usize, new: &[u8])
-    requires { ⌜ Whole g (now stripe) × Stretch g disk offset (length (now new)) ⌝ }
-    ensures { λ _. ⌜ now (stripe .exit) ≡ spliced (now (stripe .entry)) (start g disk + offset) (now (new .entry)) ⌝ }
+fn set_stretch(g: Geometry, stripe: &mut [u8], role: usize, offset: usize, new: &[u8])
+    requires { ⌜ Whole g (now stripe) × Stretch g role offset (length (now new)) ⌝ }
+    ensures { λ _. ⌜ now (stripe .exit) ≡ spliced (now (stripe .entry)) (start g role + offset) (now (new .entry)) ⌝ }
 {
-    let from = g.start(disk) + offset;
+    let from = g.start(role) + offset;
     let to = from + new.len();
     copy(&mut stripe[from..to], new);
 }
@@ -135,7 +135,7 @@ fn adjust(g: Geometry, stripe: &mut [u8], disk: usize, offset: usize, new: &[u8]
     }
     while j < new.len() {
         let i = offset + j;
-        let parity = changed(g, stripe, i, disk, new[j]);
+        let parity = changed(g, stripe, i, disk, c, new[j]);
         store(g, stripe, i, g.n + 1, parity.1);
         store(g, stripe, i, g.n, parity.0);
         j += 1;
@@ -157,14 +157,14 @@ fn adjust_chunk(g: Geometry, stripe: &mut [u8], disk: usize, i: usize, c: u8, ne
     set_roles(g, stripe, i, g.n, g.n + 1, p, q);
 }
 
-// P and Q of column i after data disk `disk` gets a new byte there.
-fn changed(g: Geometry, stripe: &[u8], i: usize, disk: usize, new: u8) -> Pair
-    requires { ⌜ Sound g (now stripe) i × (disk < g .n) ⌝ }
+// P and Q of column i after data disk `disk`, whose coefficient is c, gets a new byte there.
+fn changed(g: Geometry, stripe: &[u8], i: usize, disk: usize, c: Element, new: u8) -> Pair
+    requires { ⌜ Sound g (now stripe) i × (disk < g .n) × (c .0 ≡ power 2 disk) ⌝ }
     ensures { λ r. ⌜ Changed (g .n) disk new (column g (now (stripe .entry)) i) (r .0) (r .1) ⌝ }
 {
     let change = byte(g, stripe, i, disk).sum(Element(new));
     let p = byte(g, stripe, i, g.n).sum(change);
-    let q = byte(g, stripe, i, g.n + 1).sum(Element(2).power(disk as u64).product(change));
+    let q = byte(g, stripe, i, g.n + 1).sum(c.product(change));
     Pair(p.0, q.0)
 }
 
@@ -340,7 +340,6 @@ fn judge_places(n: usize, p: &[u8; 64], q: &[u8; 64], room: &mut [u16]) -> u16
     found
 }
 
-// The four rows of the paper's table, and equation 27.
 fn judge_column(g: Geometry, stripe: &[u8], i: usize) -> u16
     requires { ⌜ Sound g (now stripe) i ⌝ }
     ensures { λ r. ⌜ r ≡ verdict (g .n) (column g (now (stripe .entry)) i) ⌝ }
@@ -351,6 +350,7 @@ fn judge_column(g: Geometry, stripe: &[u8], i: usize) -> u16
     judge(g.n, p, q)
 }
 
+// The four rows of the paper's table, and equation 27.
 fn judge(n: usize, p: Element, q: Element) -> u16
     requires { ⌜ n ≤ 255 ⌝ }
     ensures { λ r. ⌜ r ≡ verdictOf n (p .0) (q .0) ⌝ }

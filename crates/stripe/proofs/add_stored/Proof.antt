@@ -1,3 +1,5 @@
+-- `stripe::add_stored` meets its contract: a lost role counts as 00.
+-- Assumes nothing.
 use mathlib.Core.Path.{_≡_, sym, ap, _∙_}
 use mathlib.Core.List.{List}
 use Prim.Native.Nat.{ℕ, _+_}
@@ -11,20 +13,13 @@ use Rattle.stripe.specs.Column.{put}
 use Rattle.stripe.specs.Stripe.{column}
 use Rattle.stripe.proofs.add_stored.Statement.{statement}
 use Rattle.stripe.proofs.add_stored.Tie as tie
-use Rattle.stripe.proofs.add_stored.Reads as reads
-use Rattle.stripe.proofs.add_stored.Lts as lts
-use Rattle.chunk.proofs.add.Reads as add-reads
-use Rattle.stripe.proofs.load.Reads as load-reads
 
--- src/lib.rt:682:21
 load-requires : tie.Need-load-requires
 load-requires c κs = search needs
 
--- src/lib.rt:683:13
 add-requires : tie.Need-add-requires
 add-requires c κs = search needs
 
--- src/lib.rt:676:1
 returns : tie.Need-returns
 returns c j p =
     let a = c .before .before .before .before .before .before .before .args in

@@ -37,12 +37,12 @@ abbrev μ-loop : tie.MeasureT-loop
 μ-loop g stripe₀ disk offset new c j₀ stripe j = length new - j
 
 abbrev Inv-loop2 : tie.InvT-loop2
-Inv-loop2 g stripe₀ disk offset new j₀ stripe j =
+Inv-loop2 g stripe₀ disk offset new c j₀ stripe j =
     (j ≤ length new)
     × ((s : List ℕ) → Swept g (rule g disk offset new) s stripe₀ (offset + j₀) → Swept g (rule g disk offset new) s stripe (offset + j))
 
 abbrev μ-loop2 : tie.MeasureT-loop2
-μ-loop2 g stripe₀ disk offset new j₀ stripe j = length new - j
+μ-loop2 g stripe₀ disk offset new c j₀ stripe j = length new - j
 
 power-requires : tie.Need-power-requires Inv-loop μ-loop Inv-loop2 μ-loop2
 power-requires c κs = search needs

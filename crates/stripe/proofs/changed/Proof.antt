@@ -26,9 +26,6 @@ add-byte c = search needs
 byte-requires-3 : tie.Need-byte-requires-3
 byte-requires-3 c κs = search needs
 
-power-requires : tie.Need-power-requires
-power-requires c κs = search needs
-
 product-requires : tie.Need-product-requires
 product-requires c κs = search needs
 
@@ -38,10 +35,10 @@ sum-requires-3 c κs = search needs
 returns : tie.Need-returns
 unfolding reedSolomon
 returns c =
-    let change = c .before .before .before .before .before .before .before .sum .ensures ∙ ap (λ (x : ℕ). sum x (c .before .before .before .before .before .before .before .before .before .before .args .new)) (c .before .before .before .before .before .before .before .before .byte .ensures) in
+    let change = c .before .before .before .before .before .before .sum .ensures ∙ ap (λ (x : ℕ). sum x (c .before .before .before .before .before .before .before .before .before .args .new)) (c .before .before .before .before .before .before .before .byte .ensures) in
     record {
-      first = c .before .before .before .before .before .sum2 .ensures ∙ ap₂ sum (c .before .before .before .before .before .before .byte2 .ensures) change;
-      second = c .sum3 .ensures ∙ ap₂ sum (c .before .before .before .byte3 .ensures) (c .before .product .ensures ∙ ap₂ product (c .before .before .power .ensures) change);
+      first = c .before .before .before .before .sum2 .ensures ∙ ap₂ sum (c .before .before .before .before .before .byte2 .ensures) change;
+      second = c .sum3 .ensures ∙ ap₂ sum (c .before .before .byte3 .ensures) (c .before .product .ensures ∙ ap₂ product (c .before .before .before .before .before .before .before .before .before .pre .2) change);
     }
 
 pub changed-spec : {M : Type 1} → statement M
@@ -54,7 +51,6 @@ changed-spec =
     sum-requires-2
     add-byte
     byte-requires-3
-    power-requires
     product-requires
     sum-requires-3
     returns)

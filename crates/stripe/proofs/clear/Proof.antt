@@ -1,3 +1,5 @@
+-- `stripe::clear` meets its contract: a data disk gets 00, and any other role is left alone.
+-- Assumes nothing.
 use mathlib.Core.Path.{ap}
 use Prim.Native.Nat.{ℕ, _+_}
 use native.Mathlib.Omega.{arith}
@@ -10,19 +12,13 @@ use Rattle.stripe.specs.Parts.{emptied}
 use Rattle.stripe.specs.Stripe.{column}
 use Rattle.stripe.proofs.clear.Statement.{statement}
 use Rattle.stripe.proofs.clear.Tie as tie
-use Rattle.stripe.proofs.clear.Reads as reads
-use Rattle.stripe.proofs.clear.Lts as lts
-use Rattle.stripe.proofs.set_role.Reads as set-role-reads
 
--- src/lib.rt:582:9
 set-role-requires : tie.Need-set-role-requires
 set-role-requires c κs = search needs
 
--- src/lib.rt:576:1
 same-length : tie.Need-same-length
 same-length c = search needs
 
--- src/lib.rt:576:1
 returns : tie.Need-returns
 returns c =
     let a = c .before .before .before .before .before .before .before .args in
@@ -32,7 +28,6 @@ returns c =
     let e = column (a .g) (a .stripe .now) (a .i + j) in
     rw (lt-ltb (a .role) (a .g .n + 2) (omega arith), lt-ltb (a .role) (a .g .n) known) (ap (λ (v : ℕ). put (a .role) v e) (getD-replicate 64 j 0 0 p)))
 
--- src/lib.rt:576:1
 returns-2 : tie.Need-returns-2
 returns-2 c =
     let a = c .before .before .before .args in

@@ -28,10 +28,10 @@ loop-holds : tie.Need-loop-holds Inv-loop μ-loop
 loop-holds c = let a = c .before .args in sweep-none (a .g) (rule-of (a .g) (a .x) (a .y) (a .rule)) (a .stripe .now)
 
 sub-if2 : tie.Need-sub-if2 Inv-loop μ-loop
-sub-if2 c = c .before .before .before .before .before .pre .1
+sub-if2 c = omega (arith, c .before .before .before .before .before .pre .1)
 
 sub-at : tie.Need-sub-at Inv-loop μ-loop
-sub-at c = c .before .before .before .before .before .before .before .pre .1
+sub-at c = omega (arith, c .before .before .before .before .before .before .before .pre .1)
 
 -- where a chunk begins: it lies within the block, and reaches from what is done to 64 columns further or to the end
 where-at : (c : tie.Joined2 Inv-loop μ-loop)

@@ -16,7 +16,7 @@ use Rattle.stripe.proofs.set_stretch.Tie as tie
 inside : (c : tie.After-start) → c .start .result + c .before .before .before .args .offset + length (c .before .before .before .args .new .now) ≤ length (c .before .before .before .args .stripe .now)
 inside c =
     let a = c .before .before .before .args in
-    stretch-inside (a .g) (a .stripe .now) (a .disk) (a .offset) (length (a .new .now)) (c .start .result) (c .before .before .before .pre .0) (c .before .before .before .pre .1) (c .start .ensures)
+    stretch-inside (a .g) (a .stripe .now) (a .role) (a .offset) (length (a .new .now)) (c .start .result) (c .before .before .before .pre .0) (c .before .before .before .pre .1) (c .start .ensures)
 
 start-requires : tie.Need-start-requires
 start-requires c κs = search needs
