@@ -1,5 +1,5 @@
 //! Links anew where the check for the bench changed.
 
 fn main() {
-    println!("cargo:rerun-if-changed=../target/staticlib/libgauge.a");
+    println!("cargo:rerun-if-changed=../target/staticlib/libbench_check.a");
 }

@@ -1,5 +1,5 @@
-//! Calls of libshelf.a, and of libgauge.a for the check, on a stripe that stays in one place, so that each contestant
-//! works on the same bytes.
+//! Calls of libshelf.a, and of libbench_check.a for the check, on a stripe that stays in one place, so that each
+//! contestant works on the same bytes.
 
 use outside::random::Random;
 use std::alloc::{alloc_zeroed, Layout};
@@ -16,12 +16,12 @@ extern "C" {
     pub fn shelf_rebuild(n: u64, b: u64, stripe: *mut u8, stripe_len: usize, first: u64, second: u64) -> u8;
 }
 
-#[link(name = "gauge", kind = "static")]
+#[link(name = "bench_check", kind = "static")]
 extern "C" {
-    pub fn gauge_check(n: u64, b: u64, stripe: *const u8, stripe_len: usize, verdicts: *mut u16, count: usize) -> u16;
+    pub fn bench_check(n: u64, b: u64, stripe: *const u8, stripe_len: usize, verdicts: *mut u16, count: usize) -> u16;
 }
 
-/// What gauge_check returns is a refusal from this number on.
+/// What bench_check returns is a refusal from this number on.
 pub const REFUSAL: u16 = 512;
 
 /// A stripe by its pointer: calls through it may follow one another in any order.
@@ -86,7 +86,7 @@ impl Stripe {
 
     /// The first verdict that isn't 0, or 0.
     pub fn check(&self) -> u16 {
-        let result = unsafe { gauge_check(self.n as u64, self.b as u64, self.start, self.length(), self.room, self.b) };
+        let result = unsafe { bench_check(self.n as u64, self.b as u64, self.start, self.length(), self.room, self.b) };
         assert!(result < REFUSAL, "refused; n {}, B {}", self.n, self.b);
         result
     }

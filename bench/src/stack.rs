@@ -1,6 +1,6 @@
 //! How much stack a call uses: it runs on a painted stack of its own, and what it wrote to is counted.
 
-use crate::shelf::{gauge_check, shelf_encode, shelf_rebuild, shelf_write, Stripe, REFUSAL};
+use crate::shelf::{bench_check, shelf_encode, shelf_rebuild, shelf_write, Stripe, REFUSAL};
 use outside::random::Random;
 use outside::stripe::{NONE, P, Q};
 use std::arch::asm;
@@ -69,11 +69,11 @@ pub fn print() {
         pairs.map(|(first, second)| (shelf_rebuild as *const () as usize, call(stripe, [first, second, 0, 0]))).collect()
     });
     // random bytes, so that the check finds differences
-    let told = |result: u64| (result as u16) < REFUSAL;
-    let check = most(told, |stripe| vec![(gauge_check as *const () as usize, call(stripe, [stripe.room as u64, stripe.b as u64, 0, 0]))]);
+    let done = |result: u64| (result as u16) < REFUSAL;
+    let check = most(done, |stripe| vec![(bench_check as *const () as usize, call(stripe, [stripe.room as u64, stripe.b as u64, 0, 0]))]);
     println!("| call | bytes of stack |");
     println!("|---|---|");
-    for (name, most) in [("shelf_encode", encode), ("shelf_write", write), ("shelf_rebuild", rebuild), ("gauge_check", check)] {
+    for (name, most) in [("shelf_encode", encode), ("shelf_write", write), ("shelf_rebuild", rebuild), ("bench_check", check)] {
         println!("| `{name}` | {most} |");
     }
 }

@@ -2,13 +2,13 @@
 -- Assumes nothing.
 use mathlib.Core.Path.{_≡_, refl, sym, ap, ap₂, _∙_}
 use Prim.Native.Nat.{ℕ, zero, suc, _+_, _*_, _%_, _^_, _<_}
-use native.Mathlib.Nat.{add-comm, mul-comm, pow-suc, not-suc-le-zero, le-of-suc-le-suc}
+use native.Mathlib.Nat.{add-comm, mul-comm, pow-suc}
 use native.Mathlib.Omega.{arith}
 use lib.Arith.{digits-lt}
 use lib.Bits.{bitXor, xor-block}
-use lib.ListN.{getD}
 use Rattle.bitmatrix.specs.Fold.{fold, sum}
-use Rattle.bitmatrix.specs.Matrix.{Matrix, bit, row, component, apply, tabulate, add}
+use Rattle.bitmatrix.specs.Matrix.{Matrix, bit, row, component, apply, add}
+use Rattle.base.proofs.Table.{getD-tabulate}
 use Rattle.bitmatrix.proofs.Fold.{fold-ext}
 use Rattle.bitmatrix.proofs.Bits.{bit-xor, xor-parity}
 
@@ -41,11 +41,6 @@ dot-comm : (x v : ℕ) → dot x v ≡ dot v x
 dot-comm x v = ap (λ (n : ℕ). n % 2) (fold-ext _+_ 0 8 _ _ (λ c _. mul-comm (bit x c) (bit v c)))
 
 -- ---- the whole product
-
-tabulate-at : (n : ℕ) (f : ℕ → ℕ) (k : ℕ) → k < n → getD (tabulate n f) k 0 ≡ f k
-tabulate-at zero f k l = absurd (not-suc-le-zero l)
-tabulate-at (suc n) f zero l = refl
-tabulate-at (suc n) f (suc k) l = tabulate-at n (λ i. f (suc i)) k (le-of-suc-le-suc l)
 
 -- the number with the n bits f 0, f 1, .., f (n - 1)
 abbrev pack : ℕ → (ℕ → ℕ) → ℕ
@@ -83,7 +78,7 @@ pub apply-add : (a b : Matrix) (v : ℕ) → apply (add a b) v ≡ bitXor (apply
 unfolding component
 apply-add a b v =
     apply-xor (add a b) a b v v v
-    (λ r l. ap (λ (x : ℕ). dot x v) (tabulate-at 8 (λ k. bitXor (row a k) (row b k)) r l) ∙ dot-xor (row a r) (row b r) v)
+    (λ r l. ap (λ (x : ℕ). dot x v) (getD-tabulate 8 (λ k. bitXor (row a k) (row b k)) r 0 l) ∙ dot-xor (row a r) (row b r) v)
 
 -- M (v + w) = M v + M w
 pub apply-sum : (m : Matrix) (v w : ℕ) → apply m (bitXor v w) ≡ bitXor (apply m v) (apply m w)

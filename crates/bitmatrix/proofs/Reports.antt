@@ -1,6 +1,6 @@
 -- Every finding says what is so: a search that finds something finds it at a place before which there was nothing, and one that finds nothing has tried all.
 -- Assumes nothing.
-use mathlib.Core.Path.{_≡_, refl, sym, ap, ap₂, _∙_, subst, fun-ext}
+use mathlib.Core.Path.{_≡_, refl, sym, ap, ap₂, _∙_, subst}
 use mathlib.Core.Logic.{⊎-elim}
 use mathlib.Core.Bool.{Bool, true, false, not, _&&_, true≢false, false≢true}
 use Prim.Native.Nat.{ℕ, zero, suc, _<_}
@@ -10,11 +10,12 @@ use borrow.Author.Tests.{ltb-true, lt-ltb, not-false}
 use lib.Bits.{xor-comm}
 use lib.Dec.{ltb}
 use Rattle.bitmatrix.specs.Fold.{fold}
-use Rattle.bitmatrix.specs.Matrix.{row, tabulate, add, singular}
+use Rattle.bitmatrix.specs.Matrix.{row, add, singular}
 use Rattle.bitmatrix.specs.Judge.{Code, X, orElse, first, when, isFit, singularAt, pairAt, firstPair, finding}
 use Rattle.bitmatrix.specs.Cone.{Invertible, Cone, FirstSingular, FirstPair, Reports}
 use Rattle.bitmatrix.specs.declared.Finding.{Finding}
 use Rattle.bitmatrix.specs.declared.Finding.the-variants.{Fit, Singular, Pair}
+use Rattle.base.proofs.Table.{tabulate-same}
 use Rattle.bitmatrix.proofs.Fold.{none-fold}
 use Rattle.bitmatrix.proofs.Findings.{is-fit, unfit-hides, or-fit}
 use Rattle.bitmatrix.proofs.Invertible.{only-zero, zero-only, and-true}
@@ -88,7 +89,7 @@ module _ (code : Code) (count : ℕ) where
     sums = λ i j li lj n.
         elim (decLt i j) [
           | yes l ↦ ordered p i j l lj
-          | no g ↦ subst Invertible (ap (tabulate 8) (fun-ext (λ r. xor-comm (row (X code j) r) (row (X code i) r)))) (ordered p j i (omega arith) li)
+          | no g ↦ subst Invertible (tabulate-same 8 (λ r _. xor-comm (row (X code j) r) (row (X code i) r))) (ordered p j i (omega arith) li)
         ];
   }
 

@@ -7,6 +7,7 @@ use mathlib.Core.List.{List, [], _∷_}
 use Prim.Native.Nat.{ℕ, zero, suc, _*_, _-_}
 use lib.Dec.{eqb, ltb}
 use lib.ListN.{getD}
+use Rattle.base.specs.Refusal.{Refusal, firstOf}
 use Rattle.bitmatrix.specs.Fold.{fold, sum}
 use Rattle.bitmatrix.specs.Matrix.{Matrix, entry, add, singular}
 use Rattle.bitmatrix.specs.declared.Finding.{Finding}
@@ -73,15 +74,13 @@ isFit (Pair i j) = false
 abbrev pub minimal : Finding → ℕ → ℕ → Bool
 minimal g n count = isFit g && eqb n (9 * count - 1)
 
--- the number of the first refusal of the list whose test holds, and 0 where none does
-abbrev pub firstRefusal : List (ℕ × Bool) → ℕ
-firstRefusal [] = 0
-firstRefusal ((n, true) ∷ rs) = n
-firstRefusal ((n, false) ∷ rs) = firstRefusal rs
+-- no matrix or more than eight
+abbrev pub refusal8 : ℕ → Refusal
+refusal8 count = record { number = 8; applies = eqb count 0 || ltb 8 count }
 
--- Judge: 8, no matrix or more than eight
+-- the order of Judge
 abbrev pub refusal : ℕ → ℕ
-refusal count = firstRefusal ((8, eqb count 0 || ltb 8 count) ∷ [])
+refusal count = firstOf (refusal8 count ∷ [])
 
 -- the paper's result number for each answer: 0 is done, any other refuses
 abbrev pub numberOf : Judgement → ℕ

@@ -1,11 +1,12 @@
 -- Matrices of eight rows and eight columns over two elements, as document 01 writes them down: a row is a byte, and column c is its bit of weight 2 ^ c.
 -- A vector is a byte in the same way. Assumes nothing.
 use mathlib.Core.Bool.{Bool, not, _||_}
-use mathlib.Core.List.{List, [], _∷_}
-use Prim.Native.Nat.{ℕ, zero, suc, _*_, _/_, _%_, _^_}
+use mathlib.Core.List.{List}
+use Prim.Native.Nat.{ℕ, _*_, _/_, _%_, _^_}
 use lib.Bits.{bitXor}
 use lib.Dec.{eqb}
 use lib.ListN.{getD}
+use Rattle.base.specs.Table.{tabulate}
 use Rattle.bitmatrix.specs.Fold.{sum, all}
 
 -- the rows
@@ -31,11 +32,6 @@ component m v r = sum 8 (λ c. entry m r c * bit v c) % 2
 -- the product M v, a vector
 unfoldable pub apply : Matrix → ℕ → ℕ
 apply m v = sum 8 (λ r. component m v r * 2 ^ r)
-
--- the list f 0, f 1, .., f (n - 1)
-abbrev pub tabulate : ℕ → (ℕ → ℕ) → List ℕ
-tabulate zero f = []
-tabulate (suc n) f = f 0 ∷ tabulate n (λ k. f (suc k))
 
 -- the sum of two matrices: the exclusive or of their rows
 abbrev pub add : Matrix → Matrix → Matrix

@@ -68,16 +68,11 @@ fn is_singular(m: [u8; 8]) -> bool
 fn sum_of(a: [u8; 8], b: [u8; 8]) -> [u8; 8]
     ensures { λ r. ⌜ r ≡ add a b ⌝ }
 {
-    [
-        a[0] ^ b[0],
-        a[1] ^ b[1],
-        a[2] ^ b[2],
-        a[3] ^ b[3],
-        a[4] ^ b[4],
-        a[5] ^ b[5],
-        a[6] ^ b[6],
-        a[7] ^ b[7],
-    ]
+    let mut s = a;
+    for r in 0..8 {
+        s[r] = s[r] ^ b[r];
+    }
+    s
 }
 
 fn is_fit(f: Finding) -> bool

@@ -1,4 +1,3 @@
-pub mod Places
 pub mod Zeros
 pub mod Digits
 pub mod Laws

@@ -1,43 +1,41 @@
 -- The laws of the test for zeros: one place more, and what it says of each place.
 -- Assumes nothing.
-use mathlib.Core.Path.{_≡_, refl, ap, _∙_}
-use mathlib.Core.Bool.{Bool, true, false≢true}
+use mathlib.Core.Path.{_≡_, ap, _∙_}
+use mathlib.Core.Bool.{true}
 use mathlib.Core.List.{List}
 use mathlib.Core.Logic.{⊎-elim}
 use Prim.Native.Nat.{ℕ, zero, suc, _<_}
 use native.Mathlib.Nat.{le-of-suc-le-suc, not-suc-le-zero, suc-ne-zero, eq-or-lt-of-le}
 use native.Mathlib.Omega.{arith}
-use borrow.Author.Tests.{ne-eqb}
+use borrow.Author.Tests.{eqb-true, ne-eqb}
 use lib.Dec.{eqb}
 use lib.Bits.{bitOr, or-zero-r, or-add-and, and-le-l}
 use lib.ListN.{getD}
-use Rattle.chunk.specs.Chunk.{zeroAnd, zeros, allZero}
+use Rattle.base.specs.Choice.{both}
+use Rattle.base.proofs.Choice.{both-true}
+use Rattle.chunk.specs.Chunk.{zeros, allZero}
 
 -- an or is 0 just where both are
-or-zero : (r v : ℕ) → eqb (bitOr r v) 0 ≡ zeroAnd v (eqb r 0)
+or-zero : (r v : ℕ) → eqb (bitOr r v) 0 ≡ both (eqb v 0) (eqb r 0)
 or-zero r zero = ap (λ (x : ℕ). eqb x 0) (or-zero-r r)
 or-zero r (suc v) =
-    rw (ne-eqb (suc v) 0 (suc-ne-zero v), zeroAnd)
+    rw (ne-eqb (suc v) 0 (suc-ne-zero v))
     (ne-eqb (bitOr r (suc v)) 0 (λ z. omega (arith, or-add-and r (suc v), and-le-l r (suc v))))
 
 -- r gathers the bits of the places below n, and then those of place n too
 pub zeros-more : (p q : List ℕ) (n r : ℕ) → eqb r 0 ≡ zeros n p q
     → eqb (bitOr (bitOr r (getD p n 0)) (getD q n 0)) 0 ≡ zeros (suc n) p q
 unfolding zeros
-zeros-more p q n r e =
-    or-zero (bitOr r (getD p n 0)) (getD q n 0) ∙ ap (zeroAnd (getD q n 0)) (or-zero r (getD p n 0) ∙ ap (zeroAnd (getD p n 0)) e)
-
-zero-and : (v : ℕ) (t : Bool) → zeroAnd v t ≡ true → (v ≡ 0) × (t ≡ true)
-zero-and zero t e = (refl, e)
-zero-and (suc v) t e = absurd (false≢true (rw (ne-eqb (suc v) 0 (suc-ne-zero v), zeroAnd) at e))
+zeros-more p q n r e = rw (or-zero (bitOr r (getD p n 0)), or-zero r, e)
 
 zeros-at : (p q : List ℕ) (n : ℕ) → zeros n p q ≡ true → (j : ℕ) → j < n → (getD p j 0 ≡ 0) × (getD q j 0 ≡ 0)
 unfolding zeros
 zeros-at p q zero e j h = absurd (not-suc-le-zero h)
 zeros-at p q (suc n) e j h =
-    let b = zero-and (getD q n 0) (zeroAnd (getD p n 0) (zeros n p q)) e in
-    let a = zero-and (getD p n 0) (zeros n p q) (b .1) in
-    ⊎-elim (λ m. rw m (a .0, b .0)) (λ l. zeros-at p q n (a .1) j l) (eq-or-lt-of-le (le-of-suc-le-suc h))
+    let b = both-true (eqb (getD q n 0) 0) (both (eqb (getD p n 0) 0) (zeros n p q)) e in
+    let a = both-true (eqb (getD p n 0) 0) (zeros n p q) (b .1) in
+    ⊎-elim (λ m. rw m (eqb-true (getD p n 0) 0 (a .0), eqb-true (getD q n 0) 0 (b .0))) (λ l. zeros-at p q n (a .1) j l)
+    (eq-or-lt-of-le (le-of-suc-le-suc h))
 
 pub all-zero-at : (p q : List ℕ) → allZero p q ≡ true → (j : ℕ) → j < 64 → (getD p j 0 ≡ 0) × (getD q j 0 ≡ 0)
 all-zero-at p q = zeros-at p q 64

@@ -1,28 +1,31 @@
 -- The check over the definition that its contract cites: what an accepted call leaves in the verdict buffer.
 -- Each statement is that of `Verdicts` at column i.
 -- Assumes nothing.
-use mathlib.Core.Path.{_≡_, refl, sym, ap, _∙_}
+use mathlib.Core.Path.{_≡_, sym, ap, _∙_}
 use mathlib.Core.Logic.{_≢_, _↔_}
-use mathlib.Core.List.{List, [], _∷_}
+use mathlib.Core.List.{List}
 use Prim.Native.Nat.{ℕ, _+_, _≤_, _<_}
 use native.Mathlib.Decide.{ℕ-discrete}
 use lib.ListN.{length, getD}
-use Rattle.stripe.specs.declared.Geometry.{Geometry}
-use Rattle.stripe.specs.declared.Device.{Device}
-use Rattle.stripe.specs.declared.Device.the-variants.{Data, P, Q}
-use Rattle.stripe.specs.declared.Lost.the-variants.{One}
-use Rattle.stripe.specs.Column.{Column, put, roleOf, Encoded, reedSolomon, verdict}
-use Rattle.stripe.specs.Stripe.{column, verdicts}
-use Rattle.stripe.specs.Refusals.{refusal1, refusal2, refusal3, refusal7, encodeRefusal, checkRefusal}
+use Rattle.shape.specs.declared.Geometry.{Geometry}
+use Rattle.column.specs.declared.Device.{Device}
+use Rattle.column.specs.declared.Device.the-variants.{Data, P, Q}
+use Rattle.column.specs.declared.Lost.the-variants.{One}
+use Rattle.column.specs.Column.{Column, put, roleOf, Encoded, reedSolomon, verdict}
+use Rattle.shape.specs.Layout.{column}
+use Rattle.stripe.specs.Stripe.{verdicts}
+use Rattle.shape.specs.Refusals.{checkRefusal}
 use Rattle.stripe.specs.Calls.{afterCheck}
-use Rattle.stripe.proofs.Refused.{first-kept, shape-whole, left-done}
-use Rattle.stripe.proofs.Put.{put-same, put-other}
-use Rattle.demands.specs.Loss.{Spared, Sound-loss}
+use Rattle.base.proofs.Refused.{left-done}
+use Rattle.base.proofs.Table.{getD-tabulate}
+use Rattle.shape.proofs.Refused.{well-shaped, check-accepted}
+use Rattle.column.proofs.Put.{put-same, put-other}
+use Rattle.column.specs.Loss.{Spared, KnownLoss}
 use Rattle.demands.specs.Series.{Bytes}
-use Rattle.demands.proofs.Columns.{Symbols}
+use Rattle.column.specs.Lawful.{Symbols}
 use Rattle.demands.proofs.Bytes.{columns-symbols}
 use Rattle.demands.proofs.Demand2.{SameColumn}
-use Rattle.demands.proofs.Verdicts.{verdict-zero, verdict-p, verdict-q, verdict-data, verdict-at, verdict-local}
+use Rattle.column.proofs.Verdicts.{verdict-zero, verdict-p, verdict-q, verdict-data, verdict-local}
 
 -- the verdict that names a device
 abbrev pub rightVerdict : Device → ℕ
@@ -32,7 +35,7 @@ rightVerdict Q = 2
 
 -- the device of a column that no longer has its byte is named
 verdict-right : (n : ℕ) → n ≤ 255 → (c : Column) → Symbols 8 c → Encoded reedSolomon n c → (v : ℕ) → v < 256 → (d : Device)
-    → Sound-loss n (One d)
+    → KnownLoss n (One d)
     → v ≢ c (roleOf n d)
     → verdict n (put (roleOf n d) v c) ≡ rightVerdict d
 verdict-right n few c symbols h v byte (Data z) known changed = verdict-data n few c symbols h v byte z known changed
@@ -41,16 +44,14 @@ verdict-right n few c symbols h v byte Q known changed = verdict-q n few c symbo
 
 module _ (g : Geometry) (t room : List ℕ) (accepted : checkRefusal g (length t) (length room) ≡ 0) (i : ℕ) (hi : i < g .b) where
   few : g .n ≤ 255
-  few = shape-whole g (length t) (go (ℕ-discrete (encodeRefusal g (length t)) 0)) t refl .disks
-    where
-      go : Dec (encodeRefusal g (length t) ≡ 0) → encodeRefusal g (length t) ≡ 0
-      go (yes e) = e
-      go (no n) = sym (first-kept (refusal1 g ∷ refusal2 g ∷ refusal3 g (length t) ∷ []) (refusal7 g (length room) ∷ []) n) ∙ accepted
+  few = well-shaped g t (check-accepted g (length t) (length room) accepted .0) .disks
 
+  -- what stands in the verdict buffer
   after-check : getD (afterCheck g t room) i 0 ≡ verdict (g .n) (column g t i)
   unfolding afterCheck
   after-check =
-      ap (λ (l : List ℕ). getD l i 0) (left-done (checkRefusal g (length t) (length room)) (verdicts g t) room accepted) ∙ verdict-at g t i hi
+      ap (λ (l : List ℕ). getD l i 0) (left-done (checkRefusal g (length t) (length room)) (verdicts g t) room accepted)
+      ∙ getD-tabulate (g .b) (λ i. verdict (g .n) (column g t i)) i 0 hi
 
   -- 0 exactly where both equations hold
   pub check-clean : (getD (afterCheck g t room) i 0 ≡ 0) ↔ Encoded reedSolomon (g .n) (column g t i)
@@ -60,7 +61,7 @@ module _ (g : Geometry) (t room : List ℕ) (accepted : checkRefusal g (length t
 
   -- where the column of s was encoded and t differs from it there on one device, the verdict names that device; where it doesn't, it is 0
   module _ (s : List ℕ) (h : Encoded reedSolomon (g .n) (column g s i)) where
-    pub check-right : Bytes s → Bytes t → (d : Device) → Sound-loss (g .n) (One d)
+    pub check-right : Bytes s → Bytes t → (d : Device) → KnownLoss (g .n) (One d)
         → ((r : ℕ) → r < g .n + 2 → Spared (g .n) (One d) r → column g t i r ≡ column g s i r)
         → column g t i (roleOf (g .n) d) ≢ column g s i (roleOf (g .n) d)
         → getD (afterCheck g t room) i 0 ≡ rightVerdict d

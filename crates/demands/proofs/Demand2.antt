@@ -12,42 +12,42 @@ use borrow.Author.Tests.{eqb-false, eq-eqb, ne-eqb}
 use lib.Dec.{eqb}
 use lib.ListN.{length, getD}
 use Rattle.gf256.specs.Field.{sum}
-use Rattle.stripe.specs.declared.Geometry.{Geometry}
-use Rattle.stripe.specs.declared.Device.{Device}
-use Rattle.stripe.specs.declared.Device.the-variants.{Data, P, Q}
-use Rattle.stripe.specs.declared.Lost.{Lost}
-use Rattle.stripe.specs.declared.Lost.the-variants.{One, Two}
-use Rattle.stripe.specs.Choice.{choose, either}
-use Rattle.stripe.specs.Column.{Column, roleOf, newByte, encodeColumn, writeColumn, rebuildColumn, reedSolomon}
-use Rattle.stripe.specs.Stripe.{column, covers}
-use Rattle.stripe.specs.Refusals.{firstOf, refusal1, refusal2, refusal3, unknown, encodeRefusal, writeRefusal, rebuildRefusal}
+use Rattle.shape.specs.declared.Geometry.{Geometry}
+use Rattle.column.specs.declared.Device.{Device}
+use Rattle.column.specs.declared.Device.the-variants.{Data, P, Q}
+use Rattle.column.specs.declared.Lost.{Lost}
+use Rattle.column.specs.declared.Lost.the-variants.{One, Two}
+use Rattle.base.specs.Choice.{choose, either}
+use Rattle.column.specs.Column.{Column, roleOf, newByte, encodeColumn, writeColumn, rebuildColumn, reedSolomon}
+use Rattle.shape.specs.Layout.{column}
+use Rattle.stripe.specs.Stripe.{covers}
+use Rattle.base.specs.Refusal.{firstOf}
+use Rattle.shape.specs.Refusals.{library, refusal1, refusal2, refusal3, unknown, sameDevice, encodeRefusal, writeRefusal, rebuildRefusal, WellShaped}
 use Rattle.stripe.specs.Calls.{afterEncode, afterWrite, afterRebuild}
-use Rattle.stripe.specs.Parts.{Whole}
-use Rattle.stripe.proofs.Places.{length-lift, lift-at, by-columns}
-use Rattle.stripe.proofs.Refused.{shape-whole}
-use Rattle.stripe.proofs.Inside.{known-role}
-use Rattle.stripe.proofs.Put.{put-same}
-use Rattle.stripe.proofs.Total.{total-same}
-use Rattle.demands.specs.Loss.{Spared, Sound-loss, Meets}
+use Rattle.shape.proofs.Places.{by-columns}
+use Rattle.shape.proofs.Refused.{well-shaped, write-accepted, rebuild-accepted}
+use Rattle.column.proofs.Loss.{known-role}
+use Rattle.column.proofs.Put.{put-same}
+use Rattle.column.proofs.Total.{total-same}
+use Rattle.column.specs.Loss.{Spared, KnownLoss, Meets}
+use Rattle.demands.specs.Layout.{layoutOf}
 use Rattle.demands.specs.Series.{Bytes, EncodedStripe}
-use Rattle.demands.proofs.ReedSolomon.{reed-solomon}
-use Rattle.demands.proofs.Columns.{encode-data, encode-encoded, encode-fixed, encoded-same}
-use Rattle.demands.proofs.Rebuild.{rebuild-spares, rebuild-meets, rebuild-only, rebuild-blind, rebuild-order, meets-same}
-use Rattle.demands.proofs.ColumnSeries.{set, moved-same}
+use Rattle.column.proofs.ReedSolomon.{reed-solomon}
+use Rattle.column.proofs.Columns.{encode-data, encode-encoded, encode-fixed, encoded-same, write-same}
+use Rattle.column.proofs.Rebuild.{rebuild-spares, rebuild-meets, rebuild-only, rebuild-blind, rebuild-order, meets-same}
 use Rattle.demands.proofs.Bytes.{columns-symbols}
-use Rattle.demands.proofs.Accepted.{encode-done, write-accepted, write-done, rebuild-accepted, rebuild-done, rebuild-refused}
+use Rattle.demands.proofs.Accepted.{encode-lifts, write-lifts, rebuild-lifts, rebuild-refused}
 
 -- ---- encode
 module _ (g : Geometry) (s : List ℕ) (fits : encodeRefusal g (length s) ≡ 0) where
-  whole : Whole g s
-  whole = shape-whole g (length s) fits s refl
+  whole : WellShaped g s
+  whole = well-shaped g s fits
 
   after-encode : (i r : ℕ) → i < g .b → r < g .n + 2 → column g (afterEncode g s) i r ≡ encodeColumn reedSolomon (g .n) (column g s i) r
-  after-encode i r hi hr =
-      ap (λ (l : List ℕ). column g l i r) (encode-done g s fits) ∙ lift-at g (λ i c. encodeColumn reedSolomon (g .n) c) s (whole .whole) hi hr
+  after-encode = encode-lifts g s fits .columns
 
   -- both equations hold at every column, and the data are as before
-  pub encode-meets : EncodedStripe g (afterEncode g s)
+  pub encode-meets : EncodedStripe (layoutOf g) reedSolomon (afterEncode g s)
   encode-meets i hi =
       encoded-same reedSolomon 8 255 reed-solomon (g .n) (whole .disks) (encodeColumn reedSolomon (g .n) (column g s i)) (column g (afterEncode g s) i)
       (λ r hr. sym (after-encode i r hi hr))
@@ -57,13 +57,10 @@ module _ (g : Geometry) (s : List ℕ) (fits : encodeRefusal g (length s) ≡ 0)
   encode-keeps-data i k hi hk =
       after-encode i k hi (omega arith) ∙ encode-data reedSolomon 8 255 reed-solomon (g .n) (whole .disks) (column g s i) k hk
 
-  encode-length : length (afterEncode g s) ≡ length s
-  encode-length = ap length (encode-done g s fits) ∙ length-lift g (λ i c. encodeColumn reedSolomon (g .n) c) s
-
   -- an encoded stripe is left as it is
-  pub encode-again : EncodedStripe g s → afterEncode g s ≡ s
+  pub encode-again : EncodedStripe (layoutOf g) reedSolomon s → afterEncode g s ≡ s
   encode-again enc =
-      by-columns g (whole .some) (afterEncode g s) s (encode-length ∙ whole .whole) (whole .whole)
+      by-columns g (whole .some) (afterEncode g s) s (encode-lifts g s fits .long ∙ whole .whole) (whole .whole)
       (λ i r hi hr.
       after-encode i r hi hr ∙ ap (λ (c : Column). c r) (encode-fixed reedSolomon 8 255 reed-solomon (g .n) (whole .disks) (column g s i) (enc i hi)))
 
@@ -83,47 +80,44 @@ pub record Rebuilt (g : Geometry) (l : Lost) (s : List ℕ) : Type 0 where
       → ((i r : ℕ) → i < g .b → r < g .n + 2 → Spared (g .n) l r → column g t i r ≡ column g s i r)
       → afterRebuild g l t ≡ afterRebuild g l s
 
-module _ (g : Geometry) (l : Lost) (s : List ℕ) (bytes : Bytes s) (accepted : rebuildRefusal g (length s) l ≡ 0) where
-  sound : Sound-loss (g .n) l
+module _ (g : Geometry) (l : Lost) (s : List ℕ) (accepted : rebuildRefusal g (length s) l ≡ 0) where
+  sound : KnownLoss (g .n) l
   sound = rebuild-accepted g (length s) l accepted .1
 
-  fitting : Whole g s
-  fitting = shape-whole g (length s) (rebuild-accepted g (length s) l accepted .0) s refl
-
-  abbrev rule : ℕ → Column → Column
-  rule i c = rebuildColumn reedSolomon (g .n) l c
+  fitting : WellShaped g s
+  fitting = well-shaped g s (rebuild-accepted g (length s) l accepted .0)
 
   rebuild-length : length (afterRebuild g l s) ≡ length s
-  rebuild-length = ap length (rebuild-done g l s accepted) ∙ length-lift g rule s
+  rebuild-length = rebuild-lifts g l s accepted .long
 
-  pub after-rebuild : (i r : ℕ) → i < g .b → r < g .n + 2 → column g (afterRebuild g l s) i r ≡ rebuildColumn reedSolomon (g .n) l (column g s i) r
-  after-rebuild i r hi hr = ap (λ (t : List ℕ). column g t i r) (rebuild-done g l s accepted) ∙ lift-at g rule s (fitting .whole) hi hr
+  after-rebuild : (i r : ℕ) → i < g .b → r < g .n + 2 → column g (afterRebuild g l s) i r ≡ rebuildColumn reedSolomon (g .n) l (column g s i) r
+  after-rebuild = rebuild-lifts g l s accepted .columns
 
 module _ (g : Geometry) (l : Lost) (s : List ℕ) (bytes : Bytes s) (accepted : rebuildRefusal g (length s) l ≡ 0) where
   pub demand2 : Rebuilt g l s
   demand2 =
       record {
-        spares = λ i r hi hr sp. after-rebuild g l s bytes accepted i r hi hr ∙ rebuild-spares reedSolomon (g .n) l (column g s i) r sp;
+        spares = λ i r hi hr sp. after-rebuild g l s accepted i r hi hr ∙ rebuild-spares reedSolomon (g .n) l (column g s i) r sp;
         meets = λ i hi.
             meets-same reedSolomon 8 255 reed-solomon (g .n) few l (rebuildColumn reedSolomon (g .n) l (column g s i)) (column g (afterRebuild g l s) i)
-            (λ r hr. sym (after-rebuild g l s bytes accepted i r hi hr))
-            (rebuild-meets reedSolomon 8 255 reed-solomon (g .n) few l (column g s i) (columns-symbols g s bytes i) (sound g l s bytes accepted));
+            (λ r hr. sym (after-rebuild g l s accepted i r hi hr))
+            (rebuild-meets reedSolomon 8 255 reed-solomon (g .n) few l (column g s i) (columns-symbols g s bytes i) (sound g l s accepted));
         only = λ t ht len agree meets.
-            by-columns g (fit .some) t (afterRebuild g l s) (len ∙ fit .whole) (rebuild-length g l s bytes accepted ∙ fit .whole)
+            by-columns g (fit .some) t (afterRebuild g l s) (len ∙ fit .whole) (rebuild-length g l s accepted ∙ fit .whole)
             (λ i r hi hr.
-            rebuild-only reedSolomon 8 255 reed-solomon (g .n) few (column g s i) (column g t i) l (columns-symbols g s bytes i) (columns-symbols g t ht i) (sound g l s bytes accepted) (λ q hq sp. agree i q hi hq sp) (meets i hi) r hr
-            ∙ sym (after-rebuild g l s bytes accepted i r hi hr));
+            rebuild-only reedSolomon 8 255 reed-solomon (g .n) few (column g s i) (column g t i) l (columns-symbols g s bytes i) (columns-symbols g t ht i) (sound g l s accepted) (λ q hq sp. agree i q hi hq sp) (meets i hi) r hr
+            ∙ sym (after-rebuild g l s accepted i r hi hr));
         blind = λ t ht len agree.
             let also : rebuildRefusal g (length t) l ≡ 0 = ap (λ (n : ℕ). rebuildRefusal g n l) len ∙ accepted in
-            by-columns g (fit .some) (afterRebuild g l t) (afterRebuild g l s) (rebuild-length g l t ht also ∙ len ∙ fit .whole) (rebuild-length g l s bytes accepted ∙ fit .whole)
+            by-columns g (fit .some) (afterRebuild g l t) (afterRebuild g l s) (rebuild-length g l t also ∙ len ∙ fit .whole) (rebuild-length g l s accepted ∙ fit .whole)
             (λ i r hi hr.
-            after-rebuild g l t ht also i r hi hr
-            ∙ rebuild-blind reedSolomon 8 255 reed-solomon (g .n) few l (column g s i) (column g t i) (columns-symbols g s bytes i) (columns-symbols g t ht i) (sound g l s bytes accepted) (λ q hq sp. agree i q hi hq sp) r hr
-            ∙ sym (after-rebuild g l s bytes accepted i r hi hr));
+            after-rebuild g l t also i r hi hr
+            ∙ rebuild-blind reedSolomon 8 255 reed-solomon (g .n) few l (column g s i) (column g t i) (columns-symbols g s bytes i) (columns-symbols g t ht i) (sound g l s accepted) (λ q hq sp. agree i q hi hq sp) r hr
+            ∙ sym (after-rebuild g l s accepted i r hi hr));
       }
     where
-      fit : Whole g s
-      fit = fitting g l s bytes accepted
+      fit : WellShaped g s
+      fit = fitting g l s accepted
 
       few : g .n ≤ 255
       few = fit .disks
@@ -138,16 +132,16 @@ module _ (g : Geometry) (s t : List ℕ) (hs : Bytes s) (ht : Bytes t) (len : le
       → newByte reedSolomon (g .n) d (column g t i) ≡ newByte reedSolomon (g .n) d (column g s i)
       → SameByte d
   same-byte d accepted e =
-      after-rebuild g (One d) t ht (ap (λ (n : ℕ). rebuildRefusal g n (One d)) len ∙ accepted) i x hi below
+      after-rebuild g (One d) t (ap (λ (n : ℕ). rebuildRefusal g n (One d)) len ∙ accepted) i x hi below
       ∙ put-same x (newByte reedSolomon (g .n) d (column g t i)) (column g t i)
       ∙ e
-      ∙ sym (after-rebuild g (One d) s hs accepted i x hi below ∙ put-same x (newByte reedSolomon (g .n) d (column g s i)) (column g s i))
+      ∙ sym (after-rebuild g (One d) s accepted i x hi below ∙ put-same x (newByte reedSolomon (g .n) d (column g s i)) (column g s i))
     where
       x : ℕ
       x = roleOf (g .n) d
 
       below : x < g .n + 2
-      below = known-role (g .n) d (sound g (One d) s hs accepted)
+      below = known-role (g .n) d (sound g (One d) s accepted)
 
   -- a data disk's from the other data and P, without Q
   pub one-data-without-Q : (x : ℕ) → rebuildRefusal g (length s) (One (Data x)) ≡ 0
@@ -155,7 +149,7 @@ module _ (g : Geometry) (s t : List ℕ) (hs : Bytes s) (ht : Bytes t) (len : le
       → SameByte (Data x)
   one-data-without-Q x accepted agree =
       same-byte (Data x) accepted
-      (ap₂ sum (agree (g .n) (omega arith) (omega (arith, sound g (One (Data x)) s hs accepted))) (total-same (g .n) (λ k p. at k p (eqb k x) refl)))
+      (ap₂ sum (agree (g .n) (omega arith) (omega (arith, sound g (One (Data x)) s accepted))) (total-same (g .n) (λ k p. at k p (eqb k x) refl)))
     where
       at : (k : ℕ) → k < g .n → (b : Bool) → eqb k x ≡ b → choose b 0 (column g t i k) ≡ choose b 0 (column g s i k)
       at k p true q = refl
@@ -183,12 +177,23 @@ eqb-comm a b = go (ℕ-discrete a b)
     go (yes e) = eq-eqb a b e ∙ sym (eq-eqb b a (sym e))
     go (no n) = ne-eqb a b n ∙ sym (ne-eqb b a (λ e. n (sym e)))
 
+same-comm : (d e : Device) → sameDevice d e ≡ sameDevice e d
+same-comm (Data k) (Data j) = eqb-comm k j
+same-comm (Data k) P = refl
+same-comm (Data k) Q = refl
+same-comm P (Data j) = refl
+same-comm P P = refl
+same-comm P Q = refl
+same-comm Q (Data j) = refl
+same-comm Q P = refl
+same-comm Q Q = refl
+
 pub refusal-in-any-order : (g : Geometry) (len : ℕ) (d e : Device) → rebuildRefusal g len (Two d e) ≡ rebuildRefusal g len (Two e d)
 refusal-in-any-order g len d e =
     ap₂
-    (λ (u t : Bool). firstOf (refusal1 g ∷ refusal2 g ∷ refusal3 g len ∷ record { number = 4; applies = u } ∷ record { number = 5; applies = t } ∷ []))
+    (λ (u t : Bool). firstOf (refusal1 library g ∷ refusal2 library g ∷ refusal3 g len ∷ record { number = 4; applies = u } ∷ record { number = 5; applies = t } ∷ []))
     (either-comm (unknown g d) (unknown g e))
-    (eqb-comm (roleOf (g .n) d) (roleOf (g .n) e))
+    (same-comm d e)
 
 pub names-in-any-order : (g : Geometry) (d e : Device) (s : List ℕ) → Bytes s → afterRebuild g (Two e d) s ≡ afterRebuild g (Two d e) s
 names-in-any-order g d e s bytes = go (ℕ-discrete (rebuildRefusal g (length s) (Two d e)) 0)
@@ -198,17 +203,17 @@ names-in-any-order g d e s bytes = go (ℕ-discrete (rebuildRefusal g (length s)
 
     go : Dec (rebuildRefusal g (length s) (Two d e) ≡ 0) → afterRebuild g (Two e d) s ≡ afterRebuild g (Two d e) s
     go (yes accepted) =
-        by-columns g (fit .some) (afterRebuild g (Two e d) s) (afterRebuild g (Two d e) s) (rebuild-length g (Two e d) s bytes also ∙ fit .whole) (rebuild-length g (Two d e) s bytes accepted ∙ fit .whole)
+        by-columns g (fit .some) (afterRebuild g (Two e d) s) (afterRebuild g (Two d e) s) (rebuild-length g (Two e d) s also ∙ fit .whole) (rebuild-length g (Two d e) s accepted ∙ fit .whole)
         (λ i r hi hr.
-        after-rebuild g (Two e d) s bytes also i r hi hr
-        ∙ rebuild-order reedSolomon 8 255 reed-solomon (g .n) (fit .disks) d e (column g s i) (columns-symbols g s bytes i) (sound g (Two d e) s bytes accepted) r hr
-        ∙ sym (after-rebuild g (Two d e) s bytes accepted i r hi hr))
+        after-rebuild g (Two e d) s also i r hi hr
+        ∙ rebuild-order reedSolomon 8 255 reed-solomon (g .n) (fit .disks) d e (column g s i) (columns-symbols g s bytes i) (sound g (Two d e) s accepted) r hr
+        ∙ sym (after-rebuild g (Two d e) s accepted i r hi hr))
       where
         also : rebuildRefusal g (length s) (Two e d) ≡ 0
         also = order ∙ accepted
 
-        fit : Whole g s
-        fit = fitting g (Two d e) s bytes accepted
+        fit : WellShaped g s
+        fit = fitting g (Two d e) s accepted
     go (no refused) = rebuild-refused g (Two e d) s (λ z. refused (sym order ∙ z)) ∙ sym (rebuild-refused g (Two d e) s refused)
 
 -- ---- after an accepted call column i depends on the earlier column i, the call's numbers and, for a write, the new byte there
@@ -227,9 +232,9 @@ pub rebuild-local : (g : Geometry) (l : Lost) (s t : List ℕ) → Bytes s → B
     → SameColumn g i s t
     → SameColumn g i (afterRebuild g l s) (afterRebuild g l t)
 rebuild-local g l s t hs ht len accepted i hi same r hr =
-    after-rebuild g l s hs accepted i r hi hr
-    ∙ rebuild-blind reedSolomon 8 255 reed-solomon (g .n) (fitting g l s hs accepted .disks) l (column g t i) (column g s i) (columns-symbols g t ht i) (columns-symbols g s hs i) (sound g l s hs accepted) (λ q hq sp. same q hq) r hr
-    ∙ sym (after-rebuild g l t ht (ap (λ (n : ℕ). rebuildRefusal g n l) len ∙ accepted) i r hi hr)
+    after-rebuild g l s accepted i r hi hr
+    ∙ rebuild-blind reedSolomon 8 255 reed-solomon (g .n) (fitting g l s accepted .disks) l (column g t i) (column g s i) (columns-symbols g t ht i) (columns-symbols g s hs i) (sound g l s accepted) (λ q hq sp. same q hq) r hr
+    ∙ sym (after-rebuild g l t (ap (λ (n : ℕ). rebuildRefusal g n l) len ∙ accepted) i r hi hr)
 
 pub write-local : (g : Geometry) (disk offset : ℕ) (new other s t : List ℕ) → Bytes s → Bytes t → Bytes new → length t ≡ length s → length other ≡ length new
     → writeRefusal g (length s) disk offset (length new) ≡ 0
@@ -239,27 +244,14 @@ pub write-local : (g : Geometry) (disk offset : ℕ) (new other s t : List ℕ) 
     → SameColumn g i s t
     → SameColumn g i (afterWrite g disk offset new s) (afterWrite g disk offset other t)
 write-local g disk offset new other s t hs ht hn len count accepted i hi byte same r hr =
-    ap (λ (l : List ℕ). column g l i r) (write-done g disk offset new s accepted)
-    ∙ lift-at g (rule new) s (fit .whole) hi hr
+    write-lifts g disk offset new s accepted .columns i r hi hr
     ∙ at (covers offset (length new) i) refl
     ∙ ap (λ (n : ℕ). choose (covers offset n i) (writeColumn reedSolomon (g .n) disk (getD other (i - offset) 0) (column g t i)) (column g t i) r) (sym count)
-    ∙ sym
-    (ap (λ (l : List ℕ). column g l i r)
-    (write-done g disk offset other t (ap₂ (λ (n c : ℕ). writeRefusal g n disk offset c) len count ∙ accepted))
-    ∙ lift-at g (rule other) t (len ∙ fit .whole) hi hr)
+    ∙ sym (write-lifts g disk offset other t (ap₂ (λ (n c : ℕ). writeRefusal g n disk offset c) len count ∙ accepted) .columns i r hi hr)
   where
-    rule : List ℕ → ℕ → Column → Column
-    rule new i c = choose (covers offset (length new) i) (writeColumn reedSolomon (g .n) disk (getD new (i - offset) 0) c) c
-
-    numbers : (encodeRefusal g (length s) ≡ 0) × (disk < g .n) × (offset ≤ g .b) × (length new ≤ g .b - offset)
-    numbers = write-accepted g (length s) disk offset (length new) accepted
-
-    fit : Whole g s
-    fit = shape-whole g (length s) (numbers .0) s refl
-
     at : (b : Bool) → covers offset (length new) i ≡ b → choose b (writeColumn reedSolomon (g .n) disk (getD new (i - offset) 0) (column g s i)) (column g s i) r
         ≡ choose b (writeColumn reedSolomon (g .n) disk (getD other (i - offset) 0) (column g t i)) (column g t i) r
     at true e =
-        moved-same reedSolomon 8 255 reed-solomon (g .n) (fit .disks) (set disk (getD new (i - offset) 0)) (Unit {0}) (column g s i) (column g t i) (numbers .1, hn (i - offset)) (columns-symbols g s hs i) (columns-symbols g t ht i) same r hr
+        write-same reedSolomon (g .n) disk (getD new (i - offset) 0) (column g s i) (column g t i) (write-accepted g (length s) disk offset (length new) accepted .1) same r hr
         ∙ ap (λ (v : ℕ). writeColumn reedSolomon (g .n) disk v (column g t i) r) (byte e)
     at false e = same r hr

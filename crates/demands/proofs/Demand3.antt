@@ -1,280 +1,180 @@
--- Demand 3, over the definitions that the contracts of write and rebuild cite: the claim about a whole series, and what follows from it.
--- In each column the series is one of moves, for which `ColumnSeries` has the claim over any lawful code.
+-- Demand 3 for document 01's stripe and members: each kind of member does what is asked of one, so the claim and what follows from it
+-- hold for every series of them.
 -- Assumes nothing.
-use mathlib.Core.Path.{_≡_, refl, sym, ap, subst, _∙_}
+use mathlib.Core.Path.{_≡_, refl, sym, ap, _∙_}
 use mathlib.Core.Logic.{_≢_, _⊎_, inl, inr, ⊎-elim}
-use mathlib.Core.Bool.{Bool, true, false, true≢false}
-use mathlib.Core.List.{List, [], _∷_, _++_}
+use mathlib.Core.Bool.{Bool, true, false}
+use mathlib.Core.List.{List}
 use Prim.Native.Nat.{ℕ, _+_, _-_, _≤_, _<_}
 use native.Mathlib.Omega.{arith}
 use native.Mathlib.Decide.{ℕ-discrete}
-use borrow.Author.Tests.{ne-eqb}
-use lib.Dec.{eqb}
+use borrow.Author.Tests.{eq-eqb, ne-eqb, eqb-true, leb-true, ltb-true}
+use lib.Dec.{eqb, leb, ltb}
 use lib.ListN.{length, getD}
-use Rattle.gf256.specs.Field.{sum}
-use Rattle.stripe.specs.declared.Geometry.{Geometry}
-use Rattle.stripe.specs.Choice.{choose, both}
-use Rattle.stripe.specs.Column.{Column, syndromeP, syndromeQ, Encoded, reedSolomon}
-use Rattle.stripe.specs.Stripe.{column, covers}
-use Rattle.stripe.specs.Refusals.{encodeRefusal, writeRefusal}
-use Rattle.stripe.specs.Parts.{Whole}
-use Rattle.stripe.proofs.Sweep.{below-or-not}
-use Rattle.stripe.proofs.Stretch.{before-stretch, after-stretch}
-use Rattle.stripe.proofs.Places.{by-columns}
-use Rattle.stripe.proofs.Total.{total-same}
-use Rattle.stripe.proofs.Refused.{shape-whole}
-use Rattle.demands.specs.Series.{Member, write, refused, loss, step, run, Bytes, EncodedStripe, AllAllowed, Table, tableOf, sets, feed, feedAll, Claim, Latest, none, given, givenBy, later, latest, valueOr, Apart, withoutLosses}
-use Rattle.demands.proofs.ReedSolomon.{reed-solomon}
-use Rattle.demands.proofs.Columns.{encoded-same}
-use Rattle.demands.proofs.ColumnSeries.{Move, moved, movedBy, fed, fedBy, SoundMoves, sound-map, Kept, column-series, column-alike, kept-p, kept-q, kept-encoded, movedBy-same, moved-symbols}
-use Rattle.demands.proofs.Bytes.{columns-symbols}
-use Rattle.demands.proofs.Members.{moveAt, feed-move, Steps, steps, sound-move}
+use Rattle.base.specs.Choice.{choose, both}
+use Rattle.column.specs.declared.Lost.{Lost}
+use Rattle.column.specs.Column.{Column, reedSolomon, writeColumn, rebuildColumn}
+use Rattle.column.specs.Lawful.{Symbols}
+use Rattle.column.specs.Loss.{overwrite}
+use Rattle.column.proofs.ReedSolomon.{reed-solomon}
+use Rattle.column.proofs.Columns.{write-back, write-symbols}
+use Rattle.column.proofs.Loss.{overwrite-spares, overwrite-symbols}
+use Rattle.column.proofs.Rebuild.{rebuild-symbols}
+use Rattle.column.proofs.Series.{kept-encoded}
+use Rattle.shape.specs.declared.Geometry.{Geometry}
+use Rattle.shape.specs.declared.Naming.{Naming}
+use Rattle.shape.specs.declared.Naming.the-variants.{Loss, Wrong}
+use Rattle.shape.specs.Layout.{column}
+use Rattle.shape.specs.Refusals.{encodeRefusal, writeRefusal, rebuildRefusal, WellShaped}
+use Rattle.shape.specs.Codes.{namedRefusal}
+use Rattle.shape.proofs.Refused.{well-shaped, write-accepted, rebuild-accepted}
+use Rattle.stripe.specs.Stripe.{covers}
+use Rattle.stripe.specs.Calls.{afterWrite, afterRebuild}
+use Rattle.demands.specs.Layout.{LawfulLayout, layoutOf}
+use Rattle.demands.specs.Series.{Bytes, EncodedStripe, none, given, valueOr, Member, Apart, GivesNothing, EverySeries}
+use Rattle.demands.specs.Members.{sets, writeMember, refusedRebuild, lose, lossMember, Allowed, write, refused, loss, AllowedFrom}
+use Rattle.demands.proofs.Bytes.{columns-symbols, layout-lawful}
+use Rattle.demands.proofs.Accepted.{Lifted, lifted, writeRule, write-lifts, write-refused, rebuild-lifts, rebuild-refused}
+use Rattle.demands.proofs.Members.{Does, does-nothing, does-write, does-loss}
+use Rattle.demands.proofs.Series.{every-series}
 
-abbrev movesAt : Geometry → ℕ → ℕ → List Member → List Move
-movesAt g len i [] = []
-movesAt g len i (m ∷ ms) = moveAt g len i m ∷ movesAt g len i ms
+-- what holds of both holds of either
+chosen : {A : Type 0} (Holds : A → Type 0) {x y : A} (b : Bool) → Holds x → Holds y → Holds (choose b x y)
+chosen Holds true hx hy = hx
+chosen Holds false hx hy = hy
 
--- the table's column is fed by the moves
-feed-moves : (g : Geometry) (len i : ℕ) (ms : List Member) (t : Table) (k : ℕ) → feedAll len ms t k i ≡ fedBy (movesAt g len i ms) (λ k. t k i) k
-feed-moves g len i [] t k = refl
-feed-moves g len i (m ∷ ms) t k =
-    feed-moves g len i ms (feed len m t) k ∙ ap (λ (c : Column). fedBy (movesAt g len i ms) c k) (feed-move g len i m t)
+choose-same : {A : Type 0} (b : Bool) (x : A) → choose b x x ≡ x
+choose-same true x = refl
+choose-same false x = refl
 
-sound-moves : (g : Geometry) (len : ℕ) (enc : Type 0) (i : ℕ) (ms : List Member) → AllAllowed g len enc ms → SoundMoves 8 (g .n) enc (movesAt g len i ms)
-sound-moves g len enc i [] a = tt
-sound-moves g len enc i (m ∷ ms) a = (sound-move g len enc i m (a .0), sound-moves g len enc i ms (a .1))
-
-few : (g : Geometry) (s : List ℕ) → encodeRefusal g (length s) ≡ 0 → g .n ≤ 255
-few g s fits = shape-whole g (length s) fits s refl .disks
-
--- ---- a series keeps the length and the bytes, and in each column it is its moves
-record Ran (g : Geometry) (s : List ℕ) (ms : List Member) : Type 0 where
-  kept : length (run g ms s) ≡ length s
-  bytes : Bytes (run g ms s)
-  columns : (i r : ℕ) → i < g .b → r < g .n + 2 → column g (run g ms s) i r ≡ movedBy reedSolomon (g .n) (movesAt g (length s) i ms) (column g s i) r
-
-ran : (g : Geometry) (ms : List Member) (s : List ℕ) (enc : Type 0) → Bytes s → encodeRefusal g (length s) ≡ 0 → AllAllowed g (length s) enc ms → Ran g s ms
-ran g [] s enc hs fits a = record { kept = refl; bytes = hs; columns = λ i r hi hr. refl }
-ran g (m ∷ ms) s enc hs fits a =
-    extend (ran g ms (step g m s) enc (first .bytes) (subst (λ (n : ℕ). encodeRefusal g n ≡ 0) (sym (first .kept)) fits) (subst (λ (n : ℕ). AllAllowed g n enc ms) (sym (first .kept)) (a .1)))
+-- a write gives a byte no value, or covers it
+given-where : (len : ℕ) (h : Geometry) (disk offset : ℕ) (new : List ℕ) (k p : ℕ)
+    → (writeMember len h disk offset new .gives k p ≡ none) ⊎ ((k ≡ disk) × (offset ≤ p) × (p < offset + length new))
+given-where len h disk offset new k p =
+    ⊎-elim (λ (nothing : sets disk offset new k p ≡ none). inl (simp (nothing, choose-same))) inr (go (eqb k disk) (leb offset p) (ltb p (offset + length new)) refl refl refl)
   where
-    first : Steps g s m
-    first = steps g s hs fits m enc (a .0)
+    go : (a b c : Bool) → eqb k disk ≡ a → leb offset p ≡ b → ltb p (offset + length new) ≡ c
+        → (choose (both a (both b c)) (given (getD new (p - offset) 0)) none ≡ none) ⊎ ((k ≡ disk) × (offset ≤ p) × (p < offset + length new))
+    go true true true x y z = inr (eqb-true k disk x, leb-true offset p y, ltb-true p (offset + length new) z)
+    go true true false x y z = inl refl
+    go true false c x y z = inl refl
+    go false b c x y z = inl refl
 
-    extend : Ran g (step g m s) ms → Ran g s (m ∷ ms)
-    extend rest =
-        record {
-          kept = rest .kept ∙ first .kept;
-          bytes = rest .bytes;
-          columns = λ i r hi hr.
-              rest .columns i r hi hr
-              ∙ ap (λ (n : ℕ). movedBy reedSolomon (g .n) (movesAt g n i ms) (column g (step g m s) i) r) (first .kept)
-              ∙ movedBy-same reedSolomon 8 255 reed-solomon (g .n) (few g s fits) (movesAt g (length s) i ms) enc (column g (step g m s) i) (moved reedSolomon (g .n) (moveAt g (length s) i m) (column g s i)) (sound-moves g (length s) enc i ms (a .1)) (columns-symbols g (step g m s) (first .bytes) i)
-              (moved-symbols reedSolomon 8 255 reed-solomon (g .n) (few g s fits) (moveAt g (length s) i m) (column g s i) enc (sound-move g (length s) enc i m (a .0)) (columns-symbols g s hs i))
-              (λ q hq. first .columns i q hi hq)
-              r
-              hr;
-        }
+-- ---- what each kind of member does with a stripe t
+module _ (g : Geometry) (t : List ℕ) (bytes : Bytes t) (shaped : WellShaped g t) where
+  abbrev Done : Member → Type 0
+  Done m = Does (layoutOf g) reedSolomon m t
 
--- ---- the claim
-module _ (g : Geometry) (s : List ℕ) (ms : List Member) (bytes : Bytes s) (fits : encodeRefusal g (length s) ≡ 0) (allowed : AllAllowed g (length s) (EncodedStripe g s) ms) where
-  sound-at : (i : ℕ) → i < g .b → SoundMoves 8 (g .n) (Encoded reedSolomon (g .n) (column g s i)) (movesAt g (length s) i ms)
-  sound-at i hi =
-      sound-map 8 (g .n) (EncodedStripe g s) (Encoded reedSolomon (g .n) (column g s i)) (λ e. e i hi) (movesAt g (length s) i ms) (sound-moves g (length s) (EncodedStripe g s) i ms allowed)
+  lawful : LawfulLayout (layoutOf g) 8
+  lawful = layout-lawful g (shaped .some)
 
-  kept-at : (i : ℕ) → i < g .b → Kept reedSolomon 8 255 reed-solomon (g .n) (few g s fits) (column g s i) (movedBy reedSolomon (g .n) (movesAt g (length s) i ms) (column g s i)) (fedBy (movesAt g (length s) i ms) (column g s i))
-  kept-at i hi =
-      column-series reedSolomon 8 255 reed-solomon (g .n) (few g s fits) (movesAt g (length s) i ms) (column g s i) (columns-symbols g s bytes i) (sound-at i hi)
+  stays : (m : Member) → GivesNothing m → m .runs t ≡ t → Done m
+  stays m = does-nothing (layoutOf g) reedSolomon m t bytes
 
-  all-columns : Ran g s ms
-  all-columns = ran g ms s (EncodedStripe g s) bytes fits allowed
-
-  fed-as : (i k : ℕ) → fedBy (movesAt g (length s) i ms) (column g s i) k ≡ feedAll (length s) ms (tableOf g s) k i
-  fed-as i k = sym (feed-moves g (length s) i ms (tableOf g s) k)
-
-  pub demand3 : (i : ℕ) → i < g .b → Claim g s ms i
-  demand3 i hi =
+  accepted-does : (disk offset : ℕ) (new : List ℕ) → Bytes new → writeRefusal g (length t) disk offset (length new) ≡ 0
+      → Done (writeMember (length t) g disk offset new)
+  accepted-does disk offset new hn e =
+      does-write (layoutOf g) reedSolomon 8 lawful 255 reed-solomon (shaped .disks) t bytes (writeMember (length t) g disk offset new) disk
       record {
-        contents = λ k hk. at k (omega arith) ∙ kept-at i hi .contents k hk ∙ fed-as i k;
-        first =
-            at (g .n) (omega arith)
-            ∙ kept-p reedSolomon 8 255 reed-solomon (g .n) (few g s fits) (column g s i) moves table (kept-at i hi)
-            ∙ ap (λ (x : ℕ). sum x (syndromeP (g .n) (column g s i))) (total-same (g .n) (λ k p. fed-as i k));
-        second =
-            at (g .n + 1) (omega arith)
-            ∙ kept-q reedSolomon 8 255 reed-solomon (g .n) (few g s fits) (column g s i) moves table (kept-at i hi)
-            ∙ ap (λ (x : ℕ). sum x (syndromeQ reedSolomon (g .n) (column g s i))) (total-same (g .n) (λ k p. ap (reedSolomon .act k) (fed-as i k)));
+        known = write-accepted g (length t) disk offset (length new) e .1;
+        others = λ k p n. ⊎-elim (λ e. e) (λ c. absurd (n (c .0))) (given-where (length t) g disk offset new k p);
+        fed = λ p.
+            rw accepted (chosen (λ v. valueOr (column g t p disk) v < 256) (both (eqb disk disk) (covers offset (length new) p)) (hn (p - offset)) (old p disk));
+        long = done .long;
+        bytes =
+            done .bytes
+            (λ i.
+            chosen (Symbols 8) (covers offset (length new) i)
+            (write-symbols reedSolomon 8 255 reed-solomon (g .n) (shaped .disks) (column g t i) disk (v i) (old i) (hn (i - offset)))
+            (old i));
+        columns = λ i r hi hr.
+            done .columns i r hi hr
+            ∙ rw (accepted, eq-eqb disk disk refl) (at i r (covers offset (length new) i));
       }
     where
-      moves : Column
-      moves = movedBy reedSolomon (g .n) (movesAt g (length s) i ms) (column g s i)
+      done : Lifted g (writeRule g disk offset new) t (afterWrite g disk offset new t)
+      done = write-lifts g disk offset new t e
 
-      table : Column
-      table = fedBy (movesAt g (length s) i ms) (column g s i)
+      accepted : eqb (writeRefusal g (length t) disk offset (length new)) 0 ≡ true
+      accepted = eq-eqb (writeRefusal g (length t) disk offset (length new)) 0 e
 
-      at : (r : ℕ) → r < g .n + 2 → column g (run g ms s) i r ≡ moves r
-      at r hr = all-columns .columns i r hi hr
+      old : (i : ℕ) → Symbols 8 (column g t i)
+      old = columns-symbols g t bytes
 
-  -- the stripe keeps its length and its bytes
-  pub series-length : length (run g ms s) ≡ length s
-  series-length = all-columns .kept
+      v : ℕ → ℕ
+      v i = getD new (i - offset) 0
 
-  pub series-bytes : Bytes (run g ms s)
-  series-bytes = all-columns .bytes
+      at : (i r : ℕ) (b : Bool) → choose b (writeColumn reedSolomon (g .n) disk (v i) (column g t i)) (column g t i) r
+          ≡ writeColumn reedSolomon (g .n) disk (valueOr (column g t i disk) (choose b (given (v i)) none)) (column g t i) r
+      at i r true = refl
+      at i r false = ap (λ (c : Column). c r) (sym (write-back reedSolomon 8 255 reed-solomon (g .n) (shaped .disks) (column g t i) disk))
 
--- ---- each data byte is the last value accepted for it, or its first where there was none
-valueOr-later : (v : ℕ) (a b : Latest) → valueOr (valueOr v a) b ≡ valueOr v (later a b)
-valueOr-later v a none = refl
-valueOr-later v a (given u) = refl
+  write-does : (h : Geometry) (disk offset : ℕ) (new : List ℕ) → Bytes new → (writeRefusal h (length t) disk offset (length new) ≡ 0 → h ≡ g)
+      → Done (writeMember (length t) h disk offset new)
+  write-does h disk offset new hn same = go (ℕ-discrete k 0)
+    where
+      k : ℕ
+      k = writeRefusal h (length t) disk offset (length new)
 
-feed-given : (len : ℕ) (m : Member) (t : Table) (k i : ℕ) → feed len m t k i ≡ valueOr (t k i) (givenBy len m k i)
-feed-given len (write h disk offset new) t k i = go (sets h len disk offset new k i)
+      go : Dec (k ≡ 0) → Done (writeMember (length t) h disk offset new)
+      go (yes e) = rw (same e) (accepted-does disk offset new hn (rw (same e) at e))
+      go (no n) = stays (writeMember (length t) h disk offset new) (λ i p. rw (ne-eqb k 0 n)) (write-refused h disk offset new t n)
+
+  refused-does : (h : Geometry) (naming : Naming) → namedRefusal h (length t) naming ≢ 0 → Done (refusedRebuild h naming)
+  refused-does h (Loss lost) n = stays (refusedRebuild h (Loss lost)) (λ k p. refl) (rebuild-refused h lost t n)
+  refused-does h Wrong n = stays (refusedRebuild h Wrong) (λ k p. refl) refl
+
+  loss-does : (lost : Lost) (junk : List ℕ) → Bytes junk → rebuildRefusal g (length t) lost ≡ 0 → EncodedStripe (layoutOf g) reedSolomon t
+      → Done (lossMember g lost junk)
+  loss-does lost junk hj e enc =
+      does-loss (layoutOf g) reedSolomon 8 lawful 255 reed-solomon (shaped .disks) t bytes (lossMember g lost junk) u lost (shaped .whole)
+      record {
+        known = rebuild-accepted g (length t) lost e .1;
+        nothing = λ k p. refl;
+        encoded = enc;
+        long = back .long ∙ laid .long;
+        left = left;
+        bytes = back .bytes (λ i. rebuild-symbols reedSolomon 8 255 reed-solomon (g .n) (shaped .disks) lost (column g u i) (columns-symbols g u left i));
+        spared = λ i r hi hr sp. sym (laid .columns i r hi hr ∙ overwrite-spares (g .n) lost (column g junk i) (column g t i) r sp);
+        columns = back .columns;
+      }
+    where
+      u : List ℕ
+      u = lose g lost junk t
+
+      laid : Lifted g (λ i c. overwrite (g .n) lost (column g junk i) c) t u
+      laid = lifted g (λ i c. overwrite (g .n) lost (column g junk i) c) t (shaped .whole) refl
+
+      left : Bytes u
+      left = laid .bytes (λ i. overwrite-symbols 8 (g .n) lost (column g junk i) (column g t i) (columns-symbols g junk hj i) (columns-symbols g t bytes i))
+
+      back : Lifted g (λ i c. rebuildColumn reedSolomon (g .n) lost c) u (afterRebuild g lost u)
+      back = rebuild-lifts g lost u (ap (λ (n : ℕ). rebuildRefusal g n lost) (laid .long) ∙ e)
+
+  allowed-does : (encoded : Type 0) → (encoded → EncodedStripe (layoutOf g) reedSolomon t) → (m : Member) → Allowed g (length t) encoded m → Done m
+  allowed-does encoded enc m (write h disk offset new hn same) = write-does h disk offset new hn same
+  allowed-does encoded enc m (refused h naming n) = refused-does h naming n
+  allowed-does encoded enc m (loss lost junk hj e start) = loss-does lost junk hj e (enc start)
+
+-- ---- every series from the stripe s
+pub demand3 : (g : Geometry) (s : List ℕ) → Bytes s → encodeRefusal g (length s) ≡ 0
+    → EverySeries (layoutOf g) reedSolomon s (AllowedFrom g s)
+demand3 g s bytes fits =
+    every-series (layoutOf g) reedSolomon 8 (layout-lawful g (shaped .some)) s (shaped .whole) bytes (AllowedFrom g s)
+    (λ m allowed t reached.
+    let len : length t ≡ length s = reached .long ∙ sym (shaped .whole) in
+    allowed-does g t (reached .bytes) (well-shaped g t (ap (encodeRefusal g) len ∙ fits)) (EncodedStripe (layoutOf g) reedSolomon s)
+    (λ enc i hi. kept-encoded reedSolomon (g .n) (reached .kept i hi) (enc i hi))
+    m
+    (rw len allowed))
   where
-    go : (b : Bool) → choose b (getD new (i - offset) 0) (t k i) ≡ valueOr (t k i) (choose b (given (getD new (i - offset) 0)) none)
-    go true = refl
-    go false = refl
-feed-given len (refused h naming) t k i = refl
-feed-given len (loss lost junk) t k i = refl
+    shaped : WellShaped g s
+    shaped = well-shaped g s fits
 
-feed-latest : (len : ℕ) (ms : List Member) (t : Table) (k i : ℕ) → feedAll len ms t k i ≡ valueOr (t k i) (latest len ms k i)
-feed-latest len [] t k i = refl
-feed-latest len (m ∷ ms) t k i =
-    feed-latest len ms (feed len m t) k i
-    ∙ ap (λ (v : ℕ). valueOr v (latest len ms k i)) (feed-given len m t k i)
-    ∙ valueOr-later (t k i) (givenBy len m k i) (latest len ms k i)
-
--- ---- writes that share no byte
-none-earlier : (a : Latest) → later none a ≡ a
-none-earlier none = refl
-none-earlier (given v) = refl
-
--- one of them gives nothing to a byte
-later-exchange : (a b c : Latest) → (a ≡ none) ⊎ (b ≡ none) → later a (later b c) ≡ later b (later a c)
-later-exchange a b (given v) h = refl
-later-exchange a b none h = ⊎-elim (λ e. rw e (none-earlier b)) (λ e. rw e (sym (none-earlier a))) h
-
-one-gives : (len : ℕ) (a b : Member) → Apart len a b → (k i : ℕ) → (givenBy len a k i ≡ none) ⊎ (givenBy len b k i ≡ none)
-one-gives len (write h disk offset new) (write h′ disk′ offset′ new′) apart k i =
-    go (sets h len disk offset new k i) (sets h′ len disk′ offset′ new′ k i) (apart k i)
-  where
-    go : (a b : Bool) → both a b ≡ false
-        → (choose a (given (getD new (i - offset) 0)) none ≡ none) ⊎ (choose b (given (getD new′ (i - offset′) 0)) none ≡ none)
-    go true b e = inr (rw e)
-    go false b e = inl refl
-one-gives len (write h disk offset new) (refused h′ naming) apart k i = absurd apart
-one-gives len (write h disk offset new) (loss lost junk) apart k i = absurd apart
-one-gives len (refused h naming) b apart k i = absurd apart
-one-gives len (loss lost junk) b apart k i = absurd apart
-
--- they are apart by their numbers: on different disks, or where one ends before the other starts
-not-both : (a b : Bool) → (a ≡ false) ⊎ (b ≡ false) → both a b ≡ false
-not-both true b why = ⊎-elim (λ e. absurd (true≢false e)) (λ e. e) why
-not-both false b why = refl
-
-misses : (h : Geometry) (len disk offset : ℕ) (new : List ℕ) (k i : ℕ) → (eqb k disk ≡ false) ⊎ (covers offset (length new) i ≡ false)
-    → sets h len disk offset new k i ≡ false
-misses h len disk offset new k i why =
-    not-both (eqb (writeRefusal h len disk offset (length new)) 0) (both (eqb k disk) (covers offset (length new) i))
-    (inr (not-both (eqb k disk) (covers offset (length new) i) why))
-
+-- ---- two writes share no byte where they are on different disks, or one ends before the other starts
 pub apart-by-places : (len : ℕ) (h : Geometry) (disk offset : ℕ) (new : List ℕ) (h′ : Geometry) (disk′ offset′ : ℕ) (new′ : List ℕ)
     → (disk ≢ disk′) ⊎ ((offset + length new ≤ offset′) ⊎ (offset′ + length new′ ≤ offset))
-    → Apart len (write h disk offset new) (write h′ disk′ offset′ new′)
-apart-by-places len h disk offset new h′ disk′ offset′ new′ places k i = ⊎-elim disks (λ p. ⊎-elim before after p) places
-  where
-    Neither : Type 0
-    Neither = both (sets h len disk offset new k i) (sets h′ len disk′ offset′ new′ k i) ≡ false
-
-    first : (eqb k disk ≡ false) ⊎ (covers offset (length new) i ≡ false) → Neither
-    first why = rw (misses h len disk offset new k i why)
-
-    second : (eqb k disk′ ≡ false) ⊎ (covers offset′ (length new′) i ≡ false) → Neither
-    second why =
-        not-both (sets h len disk offset new k i) (sets h′ len disk′ offset′ new′ k i) (inr (misses h′ len disk′ offset′ new′ k i why))
-
-    disks : disk ≢ disk′ → Neither
-    disks ne = at (ℕ-discrete k disk)
-      where
-        at : Dec (k ≡ disk) → Neither
-        at (yes e) = second (inl (ne-eqb k disk′ (λ f. ne (sym e ∙ f))))
-        at (no n) = first (inl (ne-eqb k disk n))
-
-    before : offset + length new ≤ offset′ → Neither
-    before p =
-        ⊎-elim (λ q. second (inr (before-stretch offset′ (length new′) i (omega arith)))) (λ q. first (inr (after-stretch offset (length new) i q)))
-        (below-or-not i (offset + length new))
-
-    after : offset′ + length new′ ≤ offset → Neither
-    after p =
-        ⊎-elim (λ q. first (inr (before-stretch offset (length new) i (omega arith)))) (λ q. second (inr (after-stretch offset′ (length new′) i q)))
-        (below-or-not i (offset′ + length new′))
-
-module _ (g : Geometry) (s : List ℕ) (bytes : Bytes s) (fits : encodeRefusal g (length s) ≡ 0) where
-  pub last-accepted : (ms : List Member) → AllAllowed g (length s) (EncodedStripe g s) ms → (i k : ℕ) → i < g .b → k < g .n
-      → column g (run g ms s) i k ≡ valueOr (column g s i k) (latest (length s) ms k i)
-  last-accepted ms allowed i k hi hk =
-      demand3 g s ms bytes fits allowed i hi .contents k hk ∙ feed-latest (length s) ms (tableOf g s) k i
-
-  -- two series with the same last values leave the stripe alike in every byte
-  pub alike : (ms ns : List Member) → AllAllowed g (length s) (EncodedStripe g s) ms → AllAllowed g (length s) (EncodedStripe g s) ns
-      → ((k i : ℕ) → k < g .n → i < g .b → latest (length s) ms k i ≡ latest (length s) ns k i)
-      → run g ms s ≡ run g ns s
-  alike ms ns am an same =
-      by-columns g (whole .some) (run g ms s) (run g ns s) (series-length g s ms bytes fits am ∙ whole .whole) (series-length g s ns bytes fits an ∙ whole .whole) at
-    where
-      whole : Whole g s
-      whole = shape-whole g (length s) fits s refl
-
-      table : (i k : ℕ) → i < g .b → k < g .n → fedBy (movesAt g (length s) i ms) (column g s i) k ≡ fedBy (movesAt g (length s) i ns) (column g s i) k
-      table i k hi hk =
-          fed-as g s ms bytes fits am i k
-          ∙ feed-latest (length s) ms (tableOf g s) k i
-          ∙ ap (valueOr (column g s i k)) (same k i hk hi)
-          ∙ sym (feed-latest (length s) ns (tableOf g s) k i)
-          ∙ sym (fed-as g s ns bytes fits an i k)
-
-      at : (i r : ℕ) → i < g .b → r < g .n + 2 → column g (run g ms s) i r ≡ column g (run g ns s) i r
-      at i r hi hr =
-          all-columns g s ms bytes fits am .columns i r hi hr
-          ∙ column-alike reedSolomon 8 255 reed-solomon (g .n) (few g s fits) (movesAt g (length s) i ms) (movesAt g (length s) i ns) (column g s i) (columns-symbols g s bytes i) (sound-at g s ms bytes fits am i hi) (sound-at g s ns bytes fits an i hi)
-          (λ k hk. table i k hi hk)
-          r
-          hr
-          ∙ sym (all-columns g s ns bytes fits an .columns i r hi hr)
-
-  -- an encoded start ends encoded
-  pub ends-encoded : (ms : List Member) → AllAllowed g (length s) (EncodedStripe g s) ms → EncodedStripe g s → EncodedStripe g (run g ms s)
-  ends-encoded ms allowed enc i hi =
-      encoded-same reedSolomon 8 255 reed-solomon (g .n) (few g s fits) (movedBy reedSolomon (g .n) (movesAt g (length s) i ms) (column g s i)) (column g (run g ms s) i)
-      (λ r hr. sym (all-columns g s ms bytes fits allowed .columns i r hi hr))
-      (kept-encoded reedSolomon 8 255 reed-solomon (g .n) (few g s fits) (column g s i) (movedBy reedSolomon (g .n) (movesAt g (length s) i ms) (column g s i)) (fedBy (movesAt g (length s) i ms) (column g s i)) (kept-at g s ms bytes fits allowed i hi) (enc i hi))
-
-  -- a series with losses ends as the same series without them
-  pub losses-leave-nothing : (ms : List Member) → AllAllowed g (length s) (EncodedStripe g s) ms → run g ms s ≡ run g (withoutLosses ms) s
-  losses-leave-nothing ms allowed = alike ms (withoutLosses ms) allowed (fewer ms allowed) (λ k i hk hi. same ms k i)
-    where
-      fewer : (ms : List Member) → AllAllowed g (length s) (EncodedStripe g s) ms → AllAllowed g (length s) (EncodedStripe g s) (withoutLosses ms)
-      fewer [] a = tt
-      fewer (write h disk offset new ∷ ms) a = (a .0, fewer ms (a .1))
-      fewer (refused h naming ∷ ms) a = (a .0, fewer ms (a .1))
-      fewer (loss lost junk ∷ ms) a = fewer ms (a .1)
-
-      same : (ms : List Member) (k i : ℕ) → latest (length s) ms k i ≡ latest (length s) (withoutLosses ms) k i
-      same [] k i = refl
-      same (write h disk offset new ∷ ms) k i = ap (later (givenBy (length s) (write h disk offset new) k i)) (same ms k i)
-      same (refused h naming ∷ ms) k i = ap (later none) (same ms k i)
-      same (loss lost junk ∷ ms) k i = none-earlier (latest (length s) ms k i) ∙ same ms k i
-
-  -- two neighbouring writes that share no byte may change places anywhere in a series
-  pub change-places : (before after : List Member) (a b : Member) → Apart (length s) a b → AllAllowed g (length s) (EncodedStripe g s) (before ++ (a ∷ b ∷ after))
-      → run g (before ++ (a ∷ b ∷ after)) s ≡ run g (before ++ (b ∷ a ∷ after)) s
-  change-places before after a b apart allowed =
-      alike (before ++ (a ∷ b ∷ after)) (before ++ (b ∷ a ∷ after)) allowed (exchanged before allowed) (λ k i hk hi. same before k i)
-    where
-      exchanged : (before : List Member) → AllAllowed g (length s) (EncodedStripe g s) (before ++ (a ∷ b ∷ after)) → AllAllowed g (length s) (EncodedStripe g s) (before ++ (b ∷ a ∷ after))
-      exchanged [] h = (h .1 .0, (h .0, h .1 .1))
-      exchanged (m ∷ ms) h = (h .0, exchanged ms (h .1))
-
-      same : (before : List Member) (k i : ℕ) → latest (length s) (before ++ (a ∷ b ∷ after)) k i ≡ latest (length s) (before ++ (b ∷ a ∷ after)) k i
-      same [] k i = later-exchange (givenBy (length s) a k i) (givenBy (length s) b k i) (latest (length s) after k i) (one-gives (length s) a b apart k i)
-      same (m ∷ ms) k i = ap (later (givenBy (length s) m k i)) (same ms k i)
+    → Apart (writeMember len h disk offset new) (writeMember len h′ disk′ offset′ new′)
+apart-by-places len h disk offset new h′ disk′ offset′ new′ places k p =
+    ⊎-elim inl (λ a. ⊎-elim inr (λ b. absurd (⊎-elim (λ n. n (sym (a .0) ∙ b .0)) (⊎-elim (λ q. omega arith) (λ q. omega arith)) places)) (given-where len h′ disk′ offset′ new′ k p))
+    (given-where len h disk offset new k p)

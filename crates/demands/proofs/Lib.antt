@@ -1,12 +1,7 @@
-pub mod Lawful
-pub mod ReedSolomon
-pub mod Columns
-pub mod Rebuild
-pub mod ColumnSeries
 pub mod Bytes
 pub mod Accepted
 pub mod Members
+pub mod Series
 pub mod Demand3
 pub mod Demand2
-pub mod Verdicts
 pub mod Checks

@@ -1,2 +1,3 @@
-pub mod Loss
+pub mod Layout
 pub mod Series
+pub mod Members

@@ -1,101 +1,22 @@
--- The series of demand 3, over the definitions that the contracts of write and rebuild cite.
+-- The series of demand 3, for any layout and code: its members, the plain table, the last value accepted for a byte, and the claim.
 use mathlib.Core.Path.{_≡_}
-use mathlib.Core.Logic.{_≢_}
-use mathlib.Core.Bool.{Bool, true, false}
-use mathlib.Core.List.{List, [], _∷_}
-use Prim.Native.Nat.{ℕ, _+_, _-_, _<_}
-use lib.Dec.{eqb}
+use mathlib.Core.Logic.{_⊎_}
+use mathlib.Core.List.{List, [], _∷_, _++_}
+use Prim.Native.Nat.{ℕ, _+_, _<_}
 use lib.ListN.{length, getD}
 use Rattle.gf256.specs.Field.{sum}
-use Rattle.stripe.specs.declared.Geometry.{Geometry}
-use Rattle.stripe.specs.declared.Lost.{Lost}
-use Rattle.stripe.specs.declared.Lost.the-variants.{One, Two}
-use Rattle.stripe.specs.declared.Naming.{Naming}
-use Rattle.stripe.specs.Choice.{choose, both, either}
-use Rattle.stripe.specs.Column.{Column, roleOf, parityP, parityQ, syndromeP, syndromeQ, Encoded, reedSolomon}
-use Rattle.stripe.specs.Stripe.{column, covers, lift}
-use Rattle.stripe.specs.Refusals.{writeRefusal, rebuildRefusal}
-use Rattle.stripe.specs.Calls.{afterWrite, afterRebuild}
-use Rattle.stripe.specs.Codes.{refusalOf, rebuiltBy}
-
--- A member: a call of write, accepted or refused; a refused call of rebuild; or a loss with its rebuild, which are one member. A refused
--- rebuild holds what it named: `Loss lost`, or what two codes name, `namingOf first second`. A loss puts what a list of bytes holds on
--- the devices that it names.
-pub data Member : Type 0 where
-  write : Geometry → ℕ → ℕ → List ℕ → Member
-  refused : Geometry → Naming → Member
-  loss : Lost → List ℕ → Member
-
-abbrev pub named : ℕ → Lost → ℕ → Bool
-named n (One d) r = eqb r (roleOf n d)
-named n (Two d e) r = either (eqb r (roleOf n d)) (eqb r (roleOf n e))
-
-abbrev pub overwrite : ℕ → Lost → Column → Column → Column
-overwrite n lost junk c r = choose (named n lost r) (junk r) (c r)
-
-abbrev pub lose : Geometry → Lost → List ℕ → List ℕ → List ℕ
-lose g lost junk s = lift g (λ i c. overwrite (g .n) lost (column g junk i) c) s
-
--- what a member makes of a stripe of geometry g, and what a series does
-abbrev pub step : Geometry → Member → List ℕ → List ℕ
-step g (write h disk offset new) s = afterWrite h disk offset new s
-step g (refused h naming) s = rebuiltBy h naming s
-step g (loss lost junk) s = afterRebuild g lost (lose g lost junk s)
-
-abbrev pub run : Geometry → List Member → List ℕ → List ℕ
-run g [] s = s
-run g (m ∷ ms) s = run g ms (step g m s)
+use Rattle.column.specs.Column.{Code, parityP, parityQ, syndromeP, syndromeQ, Encoded}
+use Rattle.demands.specs.Layout.{Layout, blockOf, columnOf}
 
 -- every number of a list is a byte
 abbrev pub Bytes : List ℕ → Type 0
 Bytes s = (j : ℕ) → getD s j 0 < 256
 
 -- both equations hold in every column
-abbrev pub EncodedStripe : Geometry → List ℕ → Type 0
-EncodedStripe g s = (i : ℕ) → i < g .b → Encoded reedSolomon (g .n) (column g s i)
+abbrev pub EncodedStripe : Layout → Code → List ℕ → Type 0
+EncodedStripe L code s = (i : ℕ) → i < L .columns → Encoded code (L .disks) (columnOf L s i)
 
--- What a series may hold, on a stripe of `len` bytes: an accepted call has the stripe's n and B; a loss is followed by an accepted
--- rebuild, and stands only where the start is encoded (`encoded`).
-abbrev pub Allowed : Geometry → ℕ → Type 0 → Member → Type 0
-Allowed g len encoded (write h disk offset new) = Bytes new × (writeRefusal h len disk offset (length new) ≡ 0 → h ≡ g)
-Allowed g len encoded (refused h naming) = refusalOf h len naming ≢ 0
-Allowed g len encoded (loss lost junk) = Bytes junk × (rebuildRefusal g len lost ≡ 0) × encoded
-
-abbrev pub AllAllowed : Geometry → ℕ → Type 0 → List Member → Type 0
-AllAllowed g len encoded [] = Unit {0}
-AllAllowed g len encoded (m ∷ ms) = Allowed g len encoded m × AllAllowed g len encoded ms
-
--- The plain table: a byte for each position of each data disk. It is fed the calls' numbers, lengths and new bytes alone.
-abbrev pub Table : Type 0
-Table = ℕ → ℕ → ℕ
-
-abbrev pub tableOf : Geometry → List ℕ → Table
-tableOf g s k i = column g s i k
-
--- the write is accepted, and it covers position i of disk k
-abbrev pub sets : Geometry → ℕ → ℕ → ℕ → List ℕ → ℕ → ℕ → Bool
-sets h len disk offset new k i =
-    both (eqb (writeRefusal h len disk offset (length new)) 0) (both (eqb k disk) (covers offset (length new) i))
-
-abbrev pub feed : ℕ → Member → Table → Table
-feed len (write h disk offset new) t k i = choose (sets h len disk offset new k i) (getD new (i - offset) 0) (t k i)
-feed len (refused h naming) t k i = t k i
-feed len (loss lost junk) t k i = t k i
-
-abbrev pub feedAll : ℕ → List Member → Table → Table
-feedAll len [] t = t
-feedAll len (m ∷ ms) t = feedAll len ms (feed len m t)
-
--- The claim of demand 3 about a whole series: the data are the table's, and P and Q differ from the equations over the table by what
--- they differed at the start.
-pub record Claim (g : Geometry) (s : List ℕ) (ms : List Member) (i : ℕ) : Type 0 where
-  pub contents : (k : ℕ) → k < g .n → column g (run g ms s) i k ≡ feedAll (length s) ms (tableOf g s) k i
-  pub first : column g (run g ms s) i (g .n)
-      ≡ sum (parityP (g .n) (λ k. feedAll (length s) ms (tableOf g s) k i)) (syndromeP (g .n) (column g s i))
-  pub second : column g (run g ms s) i (g .n + 1)
-      ≡ sum (parityQ reedSolomon (g .n) (λ k. feedAll (length s) ms (tableOf g s) k i)) (syndromeQ reedSolomon (g .n) (column g s i))
-
--- The last value accepted for a byte: the one that the last accepted write covering it gave.
+-- the value that was given to a byte, if one was
 pub data Latest : Type 0 where
   none : Latest
   given : ℕ → Latest
@@ -104,31 +25,84 @@ abbrev pub valueOr : ℕ → Latest → ℕ
 valueOr v none = v
 valueOr v (given u) = u
 
-abbrev pub givenBy : ℕ → Member → ℕ → ℕ → Latest
-givenBy len (write h disk offset new) k i = choose (sets h len disk offset new k i) (given (getD new (i - offset) 0)) none
-givenBy len (refused h naming) k i = none
-givenBy len (loss lost junk) k i = none
-
 abbrev pub later : Latest → Latest → Latest
 later earlier none = earlier
 later earlier (given v) = given v
 
-abbrev pub latest : ℕ → List Member → ℕ → ℕ → Latest
-latest len [] k i = none
-latest len (m ∷ ms) k i = later (givenBy len m k i) (latest len ms k i)
+-- A member of a series: what it makes of the stripe, and the value, if any, that it gives to position p of data disk k: `gives k p`.
+pub record Member : Type 0 where
+  pub runs : List ℕ → List ℕ
+  pub gives : ℕ → ℕ → Latest
 
--- two writes, and no data byte is set by both
-abbrev pub Apart : ℕ → Member → Member → Type 0
-Apart len (write h disk offset new) (write h′ disk′ offset′ new′) =
-    (k i : ℕ) → both (sets h len disk offset new k i) (sets h′ len disk′ offset′ new′ k i) ≡ false
-Apart len (write h disk offset new) (refused h′ naming) = ⊥
-Apart len (write h disk offset new) (loss lost junk) = ⊥
-Apart len (refused h naming) m = ⊥
-Apart len (loss lost junk) m = ⊥
+-- each member gets the stripe as the last one left it
+abbrev pub run : List Member → List ℕ → List ℕ
+run [] s = s
+run (m ∷ ms) s = run ms (m .runs s)
 
--- the series without its losses
-abbrev pub withoutLosses : List Member → List Member
-withoutLosses [] = []
-withoutLosses (write h disk offset new ∷ ms) = write h disk offset new ∷ withoutLosses ms
-withoutLosses (refused h naming ∷ ms) = refused h naming ∷ withoutLosses ms
-withoutLosses (loss lost junk ∷ ms) = withoutLosses ms
+abbrev pub All : (Member → Type 0) → List Member → Type 0
+All Holds [] = Unit {0}
+All Holds (m ∷ ms) = Holds m × All Holds ms
+
+-- The plain table: a byte for each position of each data disk. It starts as the stripe's data, and is fed what the members give alone.
+abbrev pub Table : Type 0
+Table = ℕ → ℕ → ℕ
+
+abbrev pub feed : Member → Table → Table
+feed m t k p = valueOr (t k p) (m .gives k p)
+
+abbrev pub feedAll : List Member → Table → Table
+feedAll [] t = t
+feedAll (m ∷ ms) t = feedAll ms (feed m t)
+
+abbrev pub tableAfter : Layout → List Member → List ℕ → Table
+tableAfter L ms s = feedAll ms (blockOf L s)
+
+-- the last value accepted for a byte: the one that the last member to give it one gave
+abbrev pub latest : List Member → ℕ → ℕ → Latest
+latest [] k p = none
+latest (m ∷ ms) k p = later (m .gives k p) (latest ms k p)
+
+-- The claim of demand 3 about a whole series: the data are the table's, and P and Q differ from the equations over the table by what
+-- they differed at the start.
+pub record Claim (L : Layout) (code : Code) (s : List ℕ) (ms : List Member) : Type 0 where
+  pub contents : (k p : ℕ) → k < L .disks → p < L .block → blockOf L (run ms s) k p ≡ tableAfter L ms s k p
+  pub first : (i : ℕ) → i < L .columns
+      → columnOf L (run ms s) i (L .disks) ≡ sum (parityP (L .disks) (λ k. L .symbol (tableAfter L ms s k) i)) (syndromeP (L .disks) (columnOf L s i))
+  pub second : (i : ℕ) → i < L .columns
+      → columnOf L (run ms s) i (L .disks + 1)
+      ≡ sum (parityQ code (L .disks) (λ k. L .symbol (tableAfter L ms s k) i)) (syndromeQ code (L .disks) (columnOf L s i))
+
+-- no data byte is given a value by both
+abbrev pub Apart : Member → Member → Type 0
+Apart a b = (k p : ℕ) → (a .gives k p ≡ none) ⊎ (b .gives k p ≡ none)
+
+-- no data byte is given a value
+abbrev pub GivesNothing : Member → Type 0
+GivesNothing m = (k p : ℕ) → m .gives k p ≡ none
+
+-- the second series is the first without some of the members that give nothing
+pub data Without : List Member → List Member → Type 0 where
+  end : Without [] []
+  keep : (m : Member) {ms ns : List Member} → Without ms ns → Without (m ∷ ms) (m ∷ ns)
+  drop : {m : Member} {ms ns : List Member} → GivesNothing m → Without ms ns → Without (m ∷ ms) ns
+
+-- What demand 3 says of every series from the stripe s whose members are all allowed: the claim, and what follows from it.
+pub record EverySeries (L : Layout) (code : Code) (s : List ℕ) (Allowed : Member → Type 0) : Type 0 where
+  pub claim : (ms : List Member) → All Allowed ms → Claim L code s ms
+  -- each data byte is the last value accepted for it, or its first where there was none
+  pub last-accepted : (ms : List Member) → All Allowed ms → (k p : ℕ) → k < L .disks → p < L .block
+      → blockOf L (run ms s) k p ≡ valueOr (blockOf L s k p) (latest ms k p)
+  -- the stripe keeps its length and its bytes
+  pub series-length : (ms : List Member) → All Allowed ms → length (run ms s) ≡ length s
+  pub series-bytes : (ms : List Member) → All Allowed ms → Bytes (run ms s)
+  -- an encoded start ends encoded
+  pub ends-encoded : (ms : List Member) → All Allowed ms → EncodedStripe L code s → EncodedStripe L code (run ms s)
+  -- two series with the same last values leave the stripe alike in every byte
+  pub alike : (ms ns : List Member) → All Allowed ms → All Allowed ns
+      → ((k p : ℕ) → k < L .disks → p < L .block → latest ms k p ≡ latest ns k p)
+      → run ms s ≡ run ns s
+  -- members that give nothing may be left out
+  pub left-out : (ms ns : List Member) → Without ms ns → All Allowed ms → run ms s ≡ run ns s
+  -- neighbours that share no byte may change places anywhere
+  pub change-places : (before after : List Member) (a b : Member) → Apart a b → All Allowed (before ++ (a ∷ b ∷ after))
+      → run (before ++ (a ∷ b ∷ after)) s ≡ run (before ++ (b ∷ a ∷ after)) s

@@ -6,9 +6,9 @@ use mathlib.Core.List.{List, [], _∷_}
 use lib.Dec.{T, eqb}
 use lib.ListN.{length, getD}
 use Rattle.gf256.specs.Field.{product, power, inverse, carryless, remainder, first, logarithm}
-use Rattle.stripe.specs.declared.Device.the-variants.{Data}
-use Rattle.stripe.specs.declared.Lost.the-variants.{Two}
-use Rattle.stripe.specs.Column.{Column, total, reedSolomon, encodeColumn, writeColumn, rebuildColumn, verdictOf, verdict}
+use Rattle.column.specs.declared.Device.the-variants.{Data}
+use Rattle.column.specs.declared.Lost.the-variants.{Two}
+use Rattle.column.specs.Column.{Column, total, reedSolomon, encodeColumn, writeColumn, rebuildColumn, verdictOf, verdict}
 
 -- A case and its value. A column is a list: the data, and where the case has parities, P and Q after them.
 pub data Row : Type 0 where

@@ -8,12 +8,12 @@ use native.Mathlib.Nat.{pos-of-ne-zero}
 use borrow.Author.Tests.{ltb-false, eqb-false}
 use lib.Dec.{eqb, ltb}
 use lib.ListN.{length}
-use Rattle.stripe.specs.Stripe.{size}
-use Rattle.stripe.specs.Refusals.{refusal1, refusal2, refusal3, encodeRefusal}
-use Rattle.stripe.proofs.Refused.{either-false}
+use Rattle.shape.specs.Layout.{size}
+use Rattle.shape.specs.Refusals.{library, refusal1, refusal2, refusal3, encodeRefusal}
+use Rattle.base.proofs.Choice.{either-false}
 use Rattle.job.specs.Header.{commandOf, geometryOf, firstDevice, secondDevice, stripeOf}
 use Rattle.job.specs.Refusals.{order, refusal4, refusal5, refusal16, refusal19, refusal20, jobRefusal}
-use Rattle.job.proofs.Order.{none-applies}
+use Rattle.base.proofs.Refused.{none-applies}
 
 pub record Accepted (job : List ℕ) : Type 0 where
   pub long : 14 ≤ length job
@@ -22,7 +22,7 @@ pub record Accepted (job : List ℕ) : Type 0 where
   pub fits : size (geometryOf job) ≤ 61440
   pub shape : encodeRefusal (geometryOf job) (length (stripeOf job)) ≡ 0
   pub named : refusal4 (geometryOf job) (commandOf job) (firstDevice job) (secondDevice job) .applies ≡ false
-  pub apart : refusal5 (geometryOf job) (firstDevice job) (secondDevice job) .applies ≡ false
+  pub apart : refusal5 (firstDevice job) (secondDevice job) .applies ≡ false
 
 pub accepted : (job : List ℕ) → jobRefusal job ≡ 0 → Accepted job
 unfolding jobRefusal
@@ -30,8 +30,8 @@ accepted job e =
     let none = none-applies (order job (geometryOf job)) refl e in
     let short : refusal16 job .applies ≡ false = search in
     let command : refusal19 (commandOf job) .applies ≡ false = search in
-    let one : refusal1 (geometryOf job) .applies ≡ false = search in
-    let two : refusal2 (geometryOf job) .applies ≡ false = search in
+    let one : refusal1 library (geometryOf job) .applies ≡ false = search in
+    let two : refusal2 library (geometryOf job) .applies ≡ false = search in
     let large : refusal20 (geometryOf job) .applies ≡ false = search in
     let three : refusal3 (geometryOf job) (length (stripeOf job)) .applies ≡ false = search in
     let one-to-three = either-false (eqb (commandOf job) 0) (ltb 3 (commandOf job)) command in

@@ -11,32 +11,34 @@ use native.Mathlib.Decide.{ℕ-discrete}
 use borrow.Author.Tests.{leb-true}
 use lib.Dec.{leb}
 use lib.ListN.{length, take}
-use Rattle.stripe.specs.declared.Lost.{Lost}
-use Rattle.stripe.specs.declared.Naming.{Naming}
-use Rattle.stripe.specs.declared.Naming.the-variants.{Loss, Wrong}
-use Rattle.stripe.specs.Choice.{choose}
+use Rattle.column.specs.declared.Lost.{Lost}
+use Rattle.shape.specs.declared.Naming.{Naming}
+use Rattle.shape.specs.declared.Naming.the-variants.{Loss, Wrong}
+use Rattle.base.specs.Choice.{choose}
 use Rattle.stripe.specs.Stripe.{encoded, rebuilt, verdicts, summary}
-use Rattle.stripe.specs.Calls.{unlessRefused}
-use Rattle.stripe.proofs.Refused.{shape-whole, left-alone}
+use Rattle.base.specs.Refusal.{unlessRefused}
+use Rattle.shape.proofs.Refused.{well-shaped}
+use Rattle.base.proofs.Refused.{left-alone}
 use Rattle.job.specs.Fields.{bigEndian, fields}
 use Rattle.job.specs.Header.{mark, commandOf, geometryOf, lossNamed, stripeOf}
-use Rattle.job.specs.Refusals.{misnamed, jobRefusal}
-use Rattle.job.specs.Answer.{opening, restored, body, answered, AnswerCall}
+use Rattle.shape.specs.Codes.{misnamed}
+use Rattle.job.specs.Refusals.{jobRefusal}
+use Rattle.job.specs.Answer.{opening, restored, body, answerTo, AnswerCall}
 use Rattle.job.proofs.Accepted.{accepted}
 use Rattle.job.proofs.Bodies.{body-encode, body-rebuild, body-check, length-check, length-stripe}
 
 -- a refused job gets the six bytes alone
-pub answer-refused : (job : List ℕ) → jobRefusal job ≢ 0 → answered job ≡ opening (jobRefusal job)
-unfolding answered
+pub answer-refused : (job : List ℕ) → jobRefusal job ≢ 0 → answerTo job ≡ opening (jobRefusal job)
+unfolding answerTo
 answer-refused job n = ap (λ (l : List ℕ). opening (jobRefusal job) ++ l) (left-alone (jobRefusal job) (body job) [] n)
 
-pub answer-accepted : (job : List ℕ) → jobRefusal job ≡ 0 → answered job ≡ opening 0 ++ body job
-unfolding answered
+pub answer-accepted : (job : List ℕ) → jobRefusal job ≡ 0 → answerTo job ≡ opening 0 ++ body job
+unfolding answerTo
 answer-accepted job e = ap (λ (k : ℕ). opening k ++ unlessRefused k (body job) []) e
 
 -- ---- what an accepted job gets, by its command
 module _ (job : List ℕ) (e : jobRefusal job ≡ 0) where
-  pub answer-encode : commandOf job ≡ 1 → answered job ≡ opening 0 ++ encoded (geometryOf job) (stripeOf job)
+  pub answer-encode : commandOf job ≡ 1 → answerTo job ≡ opening 0 ++ encoded (geometryOf job) (stripeOf job)
   answer-encode is = answer-accepted job e ∙ ap (λ (l : List ℕ). opening 0 ++ l) (body-encode job is)
 
   -- the codes of an accepted rebuild name a loss
@@ -48,49 +50,49 @@ module _ (job : List ℕ) (e : jobRefusal job ≡ 0) where
       go Wrong m = absurd (true≢false m)
 
   pub answer-rebuild : commandOf job ≡ 2 → (lost : Lost) → lossNamed job ≡ Loss lost
-      → answered job ≡ opening 0 ++ rebuilt (geometryOf job) lost (stripeOf job)
+      → answerTo job ≡ opening 0 ++ rebuilt (geometryOf job) lost (stripeOf job)
   answer-rebuild is lost named =
       answer-accepted job e
       ∙ ap (λ (l : List ℕ). opening 0 ++ l) (body-rebuild job is ∙ ap (λ (loss : Naming). restored (geometryOf job) loss (stripeOf job)) named)
 
   pub answer-check : commandOf job ≡ 3
-      → answered job
+      → answerTo job
       ≡ opening 0 ++ fields (summary (verdicts (geometryOf job) (stripeOf job)) ∷ verdicts (geometryOf job) (stripeOf job))
   answer-check is = answer-accepted job e ∙ ap (λ (l : List ℕ). opening 0 ++ l) (body-check job is)
 
-  pub length-accepted : length (answered job) ≡ 6 + length (body job)
+  pub length-accepted : length (answerTo job) ≡ 6 + length (body job)
   length-accepted = ap length (answer-accepted job e) ∙ omega arith
 
 -- ---- every answer
-pub answer-opens : (job : List ℕ) → take 5 (answered job) ≡ mark ++ bigEndian 1
-unfolding answered
+pub answer-opens : (job : List ℕ) → take 5 (answerTo job) ≡ mark ++ bigEndian 1
+unfolding answerTo
 answer-opens job = refl
 
-pub answer-least : (job : List ℕ) → 6 ≤ length (answered job)
-unfolding answered
+pub answer-least : (job : List ℕ) → 6 ≤ length (answerTo job)
+unfolding answerTo
 answer-least job = omega arith
 
 -- the program's output has room for every answer
-pub answer-most : (job : List ℕ) → length (answered job) ≤ 61446
+pub answer-most : (job : List ℕ) → length (answerTo job) ≤ 61446
 answer-most job = go (ℕ-discrete (jobRefusal job) 0)
   where
-    of : jobRefusal job ≡ 0 → Dec (commandOf job ≡ 3) → length (answered job) ≤ 61446
+    of : jobRefusal job ≡ 0 → Dec (commandOf job ≡ 3) → length (answerTo job) ≤ 61446
     of e (yes is) =
-        let whole = shape-whole (geometryOf job) (length (stripeOf job)) (accepted job e .shape) (stripeOf job) refl in
+        let whole = well-shaped (geometryOf job) (stripeOf job) (accepted job e .shape) in
         omega (arith, length-accepted job e, length-check job is)
     of e (no p) =
         let ok = accepted job e in
-        let whole = shape-whole (geometryOf job) (length (stripeOf job)) (ok .shape) (stripeOf job) refl in
+        let whole = well-shaped (geometryOf job) (stripeOf job) (ok .shape) in
         omega (arith, length-accepted job e, length-stripe job ok p)
 
-    go : Dec (jobRefusal job ≡ 0) → length (answered job) ≤ 61446
+    go : Dec (jobRefusal job ≡ 0) → length (answerTo job) ≤ 61446
     go (yes e) = of e (ℕ-discrete (commandOf job) 3)
     go (no n) = omega (arith, ap length (answer-refused job n))
 
 -- what is returned counts bytes of the output
 pub answer-within : {job before : List ℕ} {r : ℕ} {after : List ℕ} → AnswerCall job before r after → r ≤ length before
-answer-within {job} {before} call = rw (call .count) (go (leb (length (answered job)) (length before)) refl)
+answer-within {job} {before} call = rw (call .count) (go (leb (length (answerTo job)) (length before)) refl)
   where
-    go : (t : Bool) → leb (length (answered job)) (length before) ≡ t → choose t (length (answered job)) 0 ≤ length before
-    go true e = leb-true (length (answered job)) (length before) e
+    go : (t : Bool) → leb (length (answerTo job)) (length before) ≡ t → choose t (length (answerTo job)) 0 ≤ length before
+    go true e = leb-true (length (answerTo job)) (length before) e
     go false e = zero-le

@@ -2,23 +2,24 @@
 -- Assumes nothing.
 use mathlib.Core.Path.{_≡_, refl, sym, ap, _∙_}
 use mathlib.Core.Bool.{false}
-use mathlib.Core.List.{List, [], _∷_}
+use mathlib.Core.List.{List, _∷_}
 use Prim.Native.Nat.{ℕ, _+_, _*_}
 use native.Mathlib.Omega.{arith}
 use native.Mathlib.Decide.{ℕ-discrete}
 use lib.ListN.{length}
-use Rattle.stripe.specs.declared.Geometry.{Geometry}
-use Rattle.stripe.specs.declared.Naming.{Naming}
-use Rattle.stripe.specs.declared.Naming.the-variants.{Loss, Wrong}
-use Rattle.stripe.specs.Column.{reedSolomon, encodeColumn, rebuildColumn, verdict}
-use Rattle.stripe.specs.Stripe.{column, encoded, rebuilt, verdicts, summary}
-use Rattle.stripe.specs.Refusals.{refusal4 as lostRefusal4, refusal5 as lostRefusal5, encodeRefusal, rebuildRefusal}
-use Rattle.stripe.specs.Calls.{afterEncode, afterRebuild}
-use Rattle.stripe.specs.Codes.{rebuiltBy}
-use Rattle.stripe.proofs.Places.{length-lift, length-tabulate}
-use Rattle.stripe.proofs.Refused.{shape-passed, left-done}
+use Rattle.shape.specs.declared.Geometry.{Geometry}
+use Rattle.shape.specs.declared.Naming.{Naming}
+use Rattle.shape.specs.declared.Naming.the-variants.{Loss, Wrong}
+use Rattle.column.specs.Column.{reedSolomon, encodeColumn, rebuildColumn, verdict}
+use Rattle.shape.specs.Layout.{column}
+use Rattle.stripe.specs.Stripe.{encoded, rebuilt, verdicts, summary}
+use Rattle.shape.specs.Refusals.{library, shapeRefusals, lossRefusals, encodeRefusal, rebuildRefusal}
+use Rattle.stripe.specs.Calls.{afterEncode, afterRebuild, rebuiltBy}
+use Rattle.shape.proofs.Places.{length-lift}
+use Rattle.base.proofs.Table.{length-tabulate}
+use Rattle.base.proofs.Refused.{first-passed, left-done}
 use Rattle.job.specs.Header.{commandOf, geometryOf, lossNamed, stripeOf}
-use Rattle.job.specs.Refusals.{misnamed, namedTwice}
+use Rattle.shape.specs.Codes.{misnamed, namedTwice}
 use Rattle.job.specs.Answer.{restored, report, body}
 use Rattle.job.proofs.Accepted.{Accepted}
 use Rattle.job.proofs.Fielded.{length-fields}
@@ -74,8 +75,8 @@ module _ (job : List ℕ) where
     unfolding afterRebuild
     rebuild-done e = go (lossNamed job) (rw e at (ok .named)) (ok .apart) ∙ sym (body-rebuild e)
       where
-        go : (loss : Naming) → misnamed g loss ≡ false → namedTwice g loss ≡ false → rebuiltBy g loss s ≡ restored g loss s
+        go : (loss : Naming) → misnamed g loss ≡ false → namedTwice loss ≡ false → rebuiltBy g loss s ≡ restored g loss s
         go (Loss lost) m t =
             left-done (rebuildRefusal g (length s) lost) (rebuilt g lost s) s
-            (shape-passed g (length s) (ok .shape) (lostRefusal4 g lost ∷ lostRefusal5 g lost ∷ []) ∙ simp (m, t))
+            (first-passed (shapeRefusals library g (length s)) (lossRefusals g lost) refl (ok .shape) ∙ simp (m, t))
         go Wrong m t = refl

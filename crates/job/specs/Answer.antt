@@ -5,12 +5,12 @@ use mathlib.Core.Path.{_≡_}
 use mathlib.Core.List.{List, [], _∷_, _++_}
 use lib.Dec.{eqb, leb}
 use lib.ListN.{length, drop}
-use Rattle.stripe.specs.declared.Geometry.{Geometry}
-use Rattle.stripe.specs.declared.Naming.{Naming}
-use Rattle.stripe.specs.declared.Naming.the-variants.{Loss, Wrong}
-use Rattle.stripe.specs.Choice.{choose}
+use Rattle.shape.specs.declared.Geometry.{Geometry}
+use Rattle.shape.specs.declared.Naming.{Naming}
+use Rattle.shape.specs.declared.Naming.the-variants.{Loss, Wrong}
+use Rattle.base.specs.Choice.{choose}
 use Rattle.stripe.specs.Stripe.{encoded, rebuilt, verdicts, summary}
-use Rattle.stripe.specs.Calls.{unlessRefused}
+use Rattle.base.specs.Refusal.{unlessRefused}
 use Rattle.job.specs.Fields.{bigEndian, fields}
 use Rattle.job.specs.Header.{mark, commandOf, geometryOf, lossNamed, stripeOf}
 use Rattle.job.specs.Refusals.{jobRefusal}
@@ -35,12 +35,12 @@ outcome command g loss s =
 unfoldable pub body : List ℕ → List ℕ
 body job = outcome (commandOf job) (geometryOf job) (lossNamed job) (stripeOf job)
 
-unfoldable pub answered : List ℕ → List ℕ
-answered job = opening (jobRefusal job) ++ unlessRefused (jobRefusal job) (body job) []
+unfoldable pub answerTo : List ℕ → List ℕ
+answerTo job = opening (jobRefusal job) ++ unlessRefused (jobRefusal job) (body job) []
 
 -- The contract: the number of bytes answered and the final output. The answer stands at the output's start and the rest is left; an
 -- answer that the output has no room for is not written, and 0 is returned.
 pub record AnswerCall (job before : List ℕ) (r : ℕ) (after : List ℕ) : Type 0 where
-  pub count : r ≡ choose (leb (length (answered job)) (length before)) (length (answered job)) 0
+  pub count : r ≡ choose (leb (length (answerTo job)) (length before)) (length (answerTo job)) 0
   pub output :
-      after ≡ choose (leb (length (answered job)) (length before)) (answered job ++ drop (length (answered job)) before) before
+      after ≡ choose (leb (length (answerTo job)) (length before)) (answerTo job ++ drop (length (answerTo job)) before) before

@@ -3,10 +3,11 @@
 use Prim.Native.Nat.{ℕ}
 use mathlib.Core.List.{List, [], _∷_}
 use lib.ListN.{getD, drop}
-use Rattle.stripe.specs.declared.Geometry.{Geometry}
-use Rattle.stripe.specs.declared.Named.{Named}
-use Rattle.stripe.specs.declared.Naming.{Naming}
-use Rattle.stripe.specs.Codes.{namedBy, lossOf}
+use Rattle.shape.specs.declared.Geometry.{Geometry}
+use Rattle.shape.specs.Layout.{geometry}
+use Rattle.shape.specs.declared.Named.{Named}
+use Rattle.shape.specs.declared.Naming.{Naming}
+use Rattle.shape.specs.Codes.{namedBy, lossOf}
 use Rattle.job.specs.Fields.{field}
 
 -- "SRJ"
@@ -21,7 +22,7 @@ abbrev pub commandOf : List ℕ → ℕ
 commandOf job = getD job 5 0
 
 abbrev pub geometryOf : List ℕ → Geometry
-geometryOf job = record { n = field job 6; b = field job 8 }
+geometryOf job = geometry (field job 6) (field job 8)
 
 -- what the two device codes stand for, and what they name together
 abbrev pub firstDevice : List ℕ → Named

@@ -2,4 +2,4 @@ pub mod Fields
 pub mod Header
 pub mod Refusals
 pub mod Answer
-pub mod Parts
+pub mod Steps

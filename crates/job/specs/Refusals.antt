@@ -1,18 +1,16 @@
 -- The refusals of a job: each number with its test, and their order. Refusals 1 to 3 are those of the stripe.
 use Prim.Native.Nat.{ℕ, _+_}
-use mathlib.Core.Bool.{Bool, true, false, not}
+use mathlib.Core.Bool.{Bool, true, not}
 use mathlib.Core.List.{List, [], _∷_}
 use lib.Dec.{eqb, ltb}
 use lib.ListN.{length, getD}
-use Rattle.stripe.specs.declared.Geometry.{Geometry}
-use Rattle.stripe.specs.declared.Named.{Named}
-use Rattle.stripe.specs.declared.Named.the-variants.{Device, Nothing, Meaningless}
-use Rattle.stripe.specs.declared.Naming.{Naming}
-use Rattle.stripe.specs.declared.Naming.the-variants.{Loss, Wrong}
-use Rattle.stripe.specs.Choice.{choose, both, either}
-use Rattle.stripe.specs.Stripe.{size}
-use Rattle.stripe.specs.Codes.{lossOf}
-use Rattle.stripe.specs.Refusals.{Refusal, firstOf, refusal1, refusal2, refusal3, unknownLost, twice}
+use Rattle.base.specs.Choice.{choose, both, either}
+use Rattle.base.specs.Refusal.{Refusal, firstOf}
+use Rattle.shape.specs.declared.Geometry.{Geometry}
+use Rattle.shape.specs.declared.Named.{Named}
+use Rattle.shape.specs.Layout.{size}
+use Rattle.shape.specs.Refusals.{library, refusal1, refusal2, refusal3}
+use Rattle.shape.specs.Codes.{lossOf, misnamed, namedTwice, noDevices}
 use Rattle.job.specs.Header.{mark, versionOf, commandOf, geometryOf, firstDevice, secondDevice, stripeOf}
 
 -- a job shorter than 14 bytes
@@ -39,32 +37,15 @@ refusal19 command = record { number = 19; applies = either (eqb command 0) (ltb 
 abbrev pub refusal20 : Geometry → Refusal
 refusal20 g = record { number = 20; applies = ltb 61440 (size g) }
 
--- a device given or missing against the command's rule, a code with no meaning, or a data disk number of n or more: encode and check
--- want none twice,
-abbrev pub isNone : Named → Bool
-isNone (Device d) = false
-isNone Nothing = true
-isNone Meaningless = false
-
--- and rebuild wants codes that name a loss, of devices that the stripe has
-abbrev pub misnamed : Geometry → Naming → Bool
-misnamed g (Loss lost) = unknownLost g lost
-misnamed g Wrong = true
-
+-- a device given or missing against the command's rule, a code with no meaning, or a data disk number of n or more: rebuild wants codes
+-- that name a loss of devices that the stripe has, encode and check want none twice
 abbrev pub refusal4 : Geometry → ℕ → Named → Named → Refusal
 refusal4 g command first second =
-    record {
-      number = 4;
-      applies = choose (eqb command 2) (misnamed g (lossOf first second)) (not (both (isNone first) (isNone second)));
-    }
+    record { number = 4; applies = choose (eqb command 2) (misnamed g (lossOf first second)) (not (noDevices first second)) }
 
 -- the same device twice
-abbrev pub namedTwice : Geometry → Naming → Bool
-namedTwice g (Loss lost) = twice g lost
-namedTwice g Wrong = false
-
-abbrev pub refusal5 : Geometry → Named → Named → Refusal
-refusal5 g first second = record { number = 5; applies = namedTwice g (lossOf first second) }
+abbrev pub refusal5 : Named → Named → Refusal
+refusal5 first second = record { number = 5; applies = namedTwice (lossOf first second) }
 
 -- ---- the order
 abbrev pub order : List ℕ → Geometry → List Refusal
@@ -73,12 +54,12 @@ order job g =
     ∷ refusal17 job
     ∷ refusal18 job
     ∷ refusal19 (commandOf job)
-    ∷ refusal1 g
-    ∷ refusal2 g
+    ∷ refusal1 library g
+    ∷ refusal2 library g
     ∷ refusal20 g
     ∷ refusal3 g (length (stripeOf job))
     ∷ refusal4 g (commandOf job) (firstDevice job) (secondDevice job)
-    ∷ refusal5 g (firstDevice job) (secondDevice job)
+    ∷ refusal5 (firstDevice job) (secondDevice job)
     ∷ []
 
 unfoldable pub jobRefusal : List ℕ → ℕ

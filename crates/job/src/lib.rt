@@ -1,21 +1,19 @@
 // One job: a header of 14 bytes and a stripe, answered by six bytes and, unless the job is refused,
 // the stripe after its encode or rebuild, or what a check of it found.
+use shape::Geometry;
 use stripe::Checked;
-use stripe::Geometry;
 ghost use mathlib.Core.Path.{_≡_};
 ghost use Prim.Native.Nat.{_+_, _*_, _/_, _%_, _≤_};
 ghost use lib.ListN.{length, set};
-ghost use Rattle.stripe.specs.Codes.{namedBy};
-ghost use Rattle.stripe.specs.Refusals.{firstOf, encodeRefusal};
+ghost use Rattle.shape.specs.Codes.{namedBy};
+ghost use Rattle.base.specs.Refusal.{firstOf};
+ghost use Rattle.shape.specs.Refusals.{encodeRefusal};
 ghost use Rattle.stripe.specs.Stripe.{verdicts};
 ghost use Rattle.job.specs.Fields.{fields};
 ghost use Rattle.job.specs.Header.{geometryOf};
 ghost use Rattle.job.specs.Refusals.{jobRefusal};
-ghost use Rattle.job.specs.Answer.{report, body, answered, AnswerCall};
-ghost use Rattle.job.specs.Parts.{FieldRead, headerRefusals, shapeRefusals, deviceRefusals, placeOf};
-
-// The device code that means none.
-const NONE: usize = 65535;
+ghost use Rattle.job.specs.Answer.{report, body, answerTo, AnswerCall};
+ghost use Rattle.job.specs.Steps.{FieldRead, headerRefusals, callRefusals};
 
 // Puts the answer to a job at the start of the output and returns its length. Where the output has
 // no room for it, writes nothing and returns 0.
@@ -31,7 +29,7 @@ pub fn answer(job: &[u8], out: &mut [u8]) -> usize
     len
 }
 
-// ---- the refusals, in three stretches of their order; 0 where none applies
+// ---- the refusals in their order; 0 where none applies
 
 fn refusal(job: &[u8]) -> u8
     ensures { λ r. ⌜ r ≡ jobRefusal (now (job .entry)) ⌝ }
@@ -41,11 +39,14 @@ fn refusal(job: &[u8]) -> u8
         return refused;
     }
     let g = geometry(job);
-    let misshapen = shape_refusal(g, job.len() - 14);
-    if misshapen != 0 {
-        return misshapen;
+    let outside = shape::limits_refusal(shape::library_limits(), g);
+    if outside != 0 {
+        return outside;
     }
-    device_refusal(g, job[5], field(job, 10), field(job, 12))
+    if 61440 < (g.n + 2) * g.b {
+        return 20;
+    }
+    call_refusal(g, job.len() - 14, job[5], field(job, 10), field(job, 12))
 }
 
 // 16 to 19.
@@ -77,87 +78,18 @@ fn header_refusal(job: &[u8]) -> u8
     0
 }
 
-// 1, 2, 20 and 3.
-fn shape_refusal(g: Geometry, len: usize) -> u8
-    ensures { λ r. ⌜ r ≡ firstOf (shapeRefusals g len) ⌝ }
-{
-    if g.n == 0 {
-        return 1;
-    }
-    if 255 < g.n {
-        return 1;
-    }
-    if g.b == 0 {
-        return 2;
-    }
-    if 4096 < g.b {
-        return 2;
-    }
-    let size = (g.n + 2) * g.b;
-    if 61440 < size {
-        return 20;
-    }
-    if len != size {
-        return 3;
-    }
-    0
-}
-
-// 4 and 5.
-fn device_refusal(g: Geometry, command: u8, first: usize, second: usize) -> u8
-    requires { ⌜ g .n ≤ 255 ⌝ }
-    ensures { λ r. ⌜ r ≡ firstOf (deviceRefusals g command (namedBy first) (namedBy second)) ⌝ }
+// 1 to 5, as the command's call has them. Encode and check want no device.
+fn call_refusal(g: Geometry, len: usize, command: u8, first: usize, second: usize) -> u8
+    ensures { λ r. ⌜ r ≡ firstOf (callRefusals g len command (namedBy first) (namedBy second)) ⌝ }
 {
     if command == 2 {
-        return loss_refusal(g, first, second);
+        return shape::named_refusal(g, len, first, second);
     }
-    if first != NONE {
-        return 4;
+    let refused = shape::encode_refusal(g, len);
+    if refused != 0 {
+        return refused;
     }
-    if second != NONE {
-        return 4;
-    }
-    0
-}
-
-// 4 and 5 of a rebuild.
-fn loss_refusal(g: Geometry, first: usize, second: usize) -> u8
-    requires { ⌜ g .n ≤ 255 ⌝ }
-    ensures { λ r. ⌜ r ≡ firstOf (deviceRefusals g 2 (namedBy first) (namedBy second)) ⌝ }
-{
-    let absent = g.n + 2;
-    let x = place(g, first);
-    if x == absent {
-        return 4;
-    }
-    if second == NONE {
-        return 0;
-    }
-    let y = place(g, second);
-    if y == absent {
-        return 4;
-    }
-    if x == y {
-        return 5;
-    }
-    0
-}
-
-// The role of the device that a code names, and n + 2 where the stripe has no such device.
-fn place(g: Geometry, code: usize) -> usize
-    requires { ⌜ g .n ≤ 255 ⌝ }
-    ensures { λ r. ⌜ r ≡ placeOf g (namedBy code) ⌝ }
-{
-    if code < g.n {
-        return code;
-    }
-    if code == 256 {
-        return g.n;
-    }
-    if code == 257 {
-        return g.n + 1;
-    }
-    g.n + 2
+    if shape::no_devices(first, second) { 0 } else { 4 }
 }
 
 // ---- the answer
@@ -165,7 +97,7 @@ fn place(g: Geometry, code: usize) -> usize
 // The six bytes alone, or with a summary and B verdicts behind them, or with the stripe.
 fn answer_length(job: &[u8], refused: u8) -> usize
     requires { ⌜ refused ≡ jobRefusal (now job) ⌝ }
-    ensures { λ r. ⌜ r ≡ length (answered (now (job .entry))) ⌝ }
+    ensures { λ r. ⌜ r ≡ length (answerTo (now (job .entry))) ⌝ }
 {
     if refused != 0 {
         return 6;
@@ -178,8 +110,8 @@ fn answer_length(job: &[u8], refused: u8) -> usize
 
 // Fills an output of the answer's length.
 fn respond(job: &[u8], result: u8, out: &mut [u8])
-    requires { ⌜ (result ≡ jobRefusal (now job)) × (length (now out) ≡ length (answered (now job))) ⌝ }
-    ensures { λ _. ⌜ now (out .exit) ≡ answered (now (job .entry)) ⌝ }
+    requires { ⌜ (result ≡ jobRefusal (now job)) × (length (now out) ≡ length (answerTo (now job))) ⌝ }
+    ensures { λ _. ⌜ now (out .exit) ≡ answerTo (now (job .entry)) ⌝ }
 {
     let opening = [0x53, 0x52, 0x4a, 0, 1, result];
     bytes::copy(&opening, out);

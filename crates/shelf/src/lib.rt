@@ -1,13 +1,12 @@
 // What the shelf's controller, written in C, calls: include/shelf.h says it in C's terms. Every
 // number is 64 bits wide, and no premise is put on the caller.
-use stripe::Geometry;
-ghost use Rattle.stripe.specs.Calls.{EncodeCall, WriteCall};
-ghost use Rattle.stripe.specs.Codes.{RebuildNamedCall};
-ghost use Rattle.shelf.specs.Shape.{shape};
+use shape::Geometry;
+ghost use Rattle.stripe.specs.Calls.{EncodeCall, WriteCall, RebuildNamedCall};
+ghost use Rattle.shape.specs.Layout.{geometry};
 
 #[no_mangle]
 pub extern "C" fn shelf_encode(n: u64, b: u64, stripe: &mut [u8]) -> u8
-    ensures { λ r. ⌜ EncodeCall (shape n b) (now (stripe .entry)) r (now (stripe .exit)) ⌝ }
+    ensures { λ r. ⌜ EncodeCall (geometry n b) (now (stripe .entry)) r (now (stripe .exit)) ⌝ }
 {
     let g = Geometry {
         n: n as usize,
@@ -25,7 +24,7 @@ pub extern "C" fn shelf_write(
     offset: u64,
     bytes: &[u8],
 ) -> u8
-    ensures { λ r. ⌜ WriteCall (shape n b) disk offset (now (bytes .entry)) (now (stripe .entry)) r (now (stripe .exit)) ⌝ }
+    ensures { λ r. ⌜ WriteCall (geometry n b) disk offset (now (bytes .entry)) (now (stripe .entry)) r (now (stripe .exit)) ⌝ }
 {
     let g = Geometry {
         n: n as usize,
@@ -36,7 +35,7 @@ pub extern "C" fn shelf_write(
 
 #[no_mangle]
 pub extern "C" fn shelf_rebuild(n: u64, b: u64, stripe: &mut [u8], first: u64, second: u64) -> u8
-    ensures { λ r. ⌜ RebuildNamedCall (shape n b) first second (now (stripe .entry)) r (now (stripe .exit)) ⌝ }
+    ensures { λ r. ⌜ RebuildNamedCall (geometry n b) first second (now (stripe .entry)) r (now (stripe .exit)) ⌝ }
 {
     let g = Geometry {
         n: n as usize,

@@ -6,8 +6,8 @@ use native.Mathlib.Nat.{zero-add, add-zero, sub-self, sub-zero}
 use native.Mathlib.Omega.{arith}
 use Rattle.gf256.specs.Field.{sum, double, product, power}
 use Rattle.gf256.proofs.Laws.{zero-sum, product-lt, product-right, product-assoc, product-one, product-zero, double-product}
-use Rattle.stripe.specs.Column.{total}
-use Rattle.stripe.proofs.Total.{total-same, total-map, total-front, total-lt}
+use Rattle.column.specs.Column.{total}
+use Rattle.column.proofs.Total.{total-same, total-map, total-front, total-lt}
 
 -- f k + f (k+1) + ... + f (n-1), and 02^0·f k + 02^1·f (k+1) + ... + 02^(n-1-k)·f (n-1)
 abbrev pub tailP : ℕ → ℕ → (ℕ → ℕ) → ℕ

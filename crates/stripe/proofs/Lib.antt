@@ -1,13 +1,8 @@
-pub mod Put
-pub mod Total
-pub mod Places
-pub mod Sweep
+pub mod MappedBelow
 pub mod Horner
-pub mod Weighted
 pub mod Inside
-pub mod Refused
+pub mod Calls
 pub mod Summary
 pub mod Stretch
-pub mod Passed
+pub mod ChunkMapped
 pub mod Solved
-pub mod Filled

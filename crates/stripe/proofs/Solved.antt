@@ -11,20 +11,21 @@ use lib.Dec.{eqb, ltb}
 use lib.ListN.{length}
 use Rattle.gf256.specs.Field.{sum, product, power, inverse}
 use Rattle.gf256.proofs.Laws.{product-zero, product-comm}
-use Rattle.stripe.specs.declared.Geometry.{Geometry}
-use Rattle.stripe.specs.declared.Device.the-variants.{Data, P, Q}
-use Rattle.stripe.specs.declared.Lost.the-variants.{One, Two}
+use Rattle.shape.specs.declared.Geometry.{Geometry}
+use Rattle.column.specs.declared.Device.the-variants.{Data, P, Q}
+use Rattle.column.specs.declared.Lost.the-variants.{One, Two}
 use Rattle.stripe.specs.declared.Rule.{Rule}
 use Rattle.stripe.specs.declared.Rule.the-variants.{Plain, Mixed}
-use Rattle.stripe.specs.Choice.{choose, both}
-use Rattle.stripe.specs.Column.{Column, TwoBytes, put, parityP, parityQ, syndromeP, syndromeQ, fromP, fromQ, dataAndP, dataAndQ, coefficientA, coefficientB, rebuildColumn, reedSolomon}
-use Rattle.stripe.specs.Stripe.{size, rebuilt}
-use Rattle.stripe.specs.Parts.{putRole, emptied, without, solution, solved}
-use Rattle.stripe.proofs.Put.{put-other, put-twice, put-comm}
-use Rattle.stripe.proofs.Total.{total-same}
-use Rattle.stripe.proofs.Weighted.{weighted-put}
-use Rattle.stripe.proofs.Places.{lift-same, lift-lift}
-use Rattle.stripe.proofs.Sweep.{below-or-not}
+use Rattle.base.specs.Choice.{choose, both}
+use Rattle.column.specs.Column.{Column, TwoBytes, put, parityP, parityQ, syndromeP, syndromeQ, fromP, fromQ, dataAndP, dataAndQ, coefficientA, coefficientB, rebuildColumn, reedSolomon}
+use Rattle.shape.specs.Layout.{size}
+use Rattle.stripe.specs.Stripe.{rebuilt}
+use Rattle.stripe.specs.Engine.{putRole, emptied, without, solution, solved}
+use Rattle.column.proofs.Put.{put-other, put-twice, put-comm}
+use Rattle.column.proofs.Total.{total-same}
+use Rattle.column.proofs.Weighted.{weighted-put}
+use Rattle.shape.proofs.Places.{lift-same, lift-lift}
+use Rattle.base.proofs.Choice.{below-or-not}
 
 -- ---- v at role d where the test holds: `putRole` and `emptied` are such, and `put` where it is true
 abbrev fill : Bool → ℕ → ℕ → Column → Column
@@ -74,14 +75,14 @@ fill-over a b a′ b′ x y v w v′ w′ c p q =
 
 module _ (n x y : ℕ) where
   -- the roles x and y with the answer to p and q
-  abbrev answered : Rule → ℕ → ℕ → Column → Column
-  answered rule p q c = putRole n x (solution rule p q .first) (putRole n y (solution rule p q .second) c)
+  abbrev withSolution : Rule → ℕ → ℕ → Column → Column
+  withSolution rule p q c = putRole n x (solution rule p q .first) (putRole n y (solution rule p q .second) c)
 
   -- solving again changes nothing
   pub solved-again : (rule : Rule) (c : Column) → solved n x y rule (solved n x y rule c) ≡ solved n x y rule c
   unfolding solved
   solved-again rule c =
-      ap (λ (e : Column). answered rule (syndromeP n e) (syndromeQ reedSolomon n e) (solved n x y rule c))
+      ap (λ (e : Column). withSolution rule (syndromeP n e) (syndromeQ reedSolomon n e) (solved n x y rule c))
       (fill-over true true known-x known-y x y 0 0 (bytes .first) (bytes .second) c (λ p. refl) (λ p. refl))
       ∙ fill-over known-x known-y known-x known-y x y (bytes .first) (bytes .second) (bytes .first) (bytes .second) c (λ p. p) (λ p. p)
     where
@@ -116,9 +117,9 @@ module _ (n x y : ℕ) where
 
   solved-emptied : (rule : Rule) (c : Column)
       → solved n x y rule c
-      ≡ answered rule (sum (without x y c n) (parityP n (emptied n x (emptied n y c)))) (sum (without x y c (n + 1)) (parityQ reedSolomon n (emptied n x (emptied n y c)))) c
+      ≡ withSolution rule (sum (without x y c n) (parityP n (emptied n x (emptied n y c)))) (sum (without x y c (n + 1)) (parityQ reedSolomon n (emptied n x (emptied n y c)))) c
   unfolding solved
-  solved-emptied rule c = ap₂ (λ (p q : ℕ). answered rule p q c) (sym (rest-p c)) (sym (rest-q c))
+  solved-emptied rule c = ap₂ (λ (p q : ℕ). withSolution rule p q c) (sym (rest-p c)) (sym (rest-q c))
 
 -- ---- what is solved is rebuilt
 module _ (n : ℕ) where

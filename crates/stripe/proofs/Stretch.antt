@@ -10,15 +10,19 @@ use borrow.Author.Tests.{lt-ltb, le-ltb, le-leb, lt-leb}
 use lib.Dec.{eqb}
 use lib.ListN.{length, getD, take, drop, length-append, length-take, length-drop, List·getD-append}
 use lib.Seq.{length-take-le, getD-append-add, getD-take, getD-drop}
-use Rattle.stripe.specs.declared.Geometry.{Geometry}
-use Rattle.stripe.specs.Choice.{choose}
-use Rattle.stripe.specs.Column.{Column, put, adjustColumn, writeColumn, reedSolomon}
-use Rattle.stripe.specs.Stripe.{start, size, column, covers, written}
-use Rattle.stripe.specs.Parts.{Whole, Stretch, adjusted, spliced}
-use Rattle.stripe.proofs.Put.{put-same, put-other, by-role}
-use Rattle.stripe.proofs.Places.{block-end, start-mono, length-lift, lift-at, by-columns}
+use Rattle.shape.specs.declared.Geometry.{Geometry}
+use Rattle.base.specs.Choice.{choose}
+use Rattle.column.specs.Column.{Column, put, adjustColumn, writeColumn, reedSolomon}
+use Rattle.shape.specs.Layout.{start, size, column}
+use Rattle.stripe.specs.Stripe.{covers, written}
+use Rattle.shape.specs.Refusals.{WellShaped}
+use Rattle.stripe.specs.Engine.{Stretch, adjusted}
+use Rattle.base.specs.Table.{spliced}
+use Rattle.column.proofs.Put.{put-same, put-other, by-role}
+use Rattle.shape.proofs.Places.{block-end, start-mono, length-lift, lift-at, by-columns}
 use Rattle.stripe.proofs.Inside.{stretch-inside}
-use Rattle.stripe.proofs.Sweep.{below-or-not}
+use Rattle.base.proofs.Choice.{below-or-not}
+use Rattle.base.proofs.Splice.{length-spliced, spliced-in, spliced-low, spliced-high}
 
 -- ---- the columns that a write covers
 pub covered : (offset count i : ℕ) → offset ≤ i → i < offset + count → covers offset count i ≡ true
@@ -30,37 +34,8 @@ before-stretch offset count i p = rw (lt-leb offset i p)
 pub after-stretch : (offset count i : ℕ) → offset + count ≤ i → covers offset count i ≡ false
 after-stretch offset count i p = rw (le-leb offset i (omega arith)) (le-ltb i (offset + count) p)
 
--- ---- a list with another in its middle
-module _ (l : List ℕ) (a : ℕ) (m : List ℕ) (fits : a + length m ≤ length l) where
-  front : length (take a l) ≡ a
-  front = length-take-le a l (omega arith)
-
-  pub length-spliced : length (spliced l a m) ≡ length l
-  length-spliced = simp (length-append, length-take, length-drop) (omega arith)
-
-  pub spliced-in : (p : ℕ) → p < length m → getD (spliced l a m) (a + p) 0 ≡ getD m p 0
-  spliced-in p h =
-      ap (λ (n : ℕ). getD (spliced l a m) (n + p) 0) (sym front)
-      ∙ getD-append-add (take a l) (m ++ drop (a + length m) l) p 0
-      ∙ List·getD-append m (drop (a + length m) l) 0 p h
-
-  pub spliced-low : (p : ℕ) → p < a → getD (spliced l a m) p 0 ≡ getD l p 0
-  spliced-low p h =
-      List·getD-append (take a l) (m ++ drop (a + length m) l) 0 p (subst (λ (n : ℕ). p < n) (sym front) h) ∙ getD-take a l p 0 h
-
-  spliced-high : (p : ℕ) → a + length m ≤ p → getD (spliced l a m) p 0 ≡ getD l p 0
-  spliced-high p h =
-      ap (λ (n : ℕ). getD (spliced l a m) n 0) place
-      ∙ getD-append-add (take a l) (m ++ drop (a + length m) l) (length m + (p - (a + length m))) 0
-      ∙ getD-append-add m (drop (a + length m) l) (p - (a + length m)) 0
-      ∙ getD-drop (a + length m) l (p - (a + length m)) 0
-      ∙ ap (λ (n : ℕ). getD l n 0) (omega arith)
-    where
-      place : p ≡ length (take a l) + (length m + (p - (a + length m)))
-      place = let f = front in omega arith
-
 -- ---- a stretch of a block, set
-module _ (g : Geometry) (s : List ℕ) (disk offset : ℕ) (new : List ℕ) (whole : Whole g s) (stretch : Stretch g disk offset (length new)) where
+module _ (g : Geometry) (s : List ℕ) (disk offset : ℕ) (new : List ℕ) (whole : WellShaped g s) (stretch : Stretch g disk offset (length new)) where
   abbrev from : ℕ
   from = start g disk + offset
 
@@ -104,28 +79,31 @@ module _ (g : Geometry) (s : List ℕ) (disk offset : ℕ) (new : List ℕ) (who
           (λ r h. outside i r hi h ∙ sym (put-other disk (getD new (i - offset) 0) (column g s i) r h))
           ∙ sym (rw (covered offset (length new) i p q))
 
+-- ---- the write, in two steps
+abbrev adjust-rule : Geometry → ℕ → ℕ → List ℕ → ℕ → Column → Column
+adjust-rule g disk offset new i c = choose (covers offset (length new) i) (adjustColumn reedSolomon (g .n) disk (getD new (i - offset) 0) c) c
+
+-- the stripe stays well shaped while its parities are adjusted
+pub adjusted-shaped : (g : Geometry) (disk offset : ℕ) (new s : List ℕ) → WellShaped g s → WellShaped g (adjusted g disk offset new s)
+adjusted-shaped g disk offset new s shaped =
+    record { disks = shaped .disks; block = shaped .block; some = shaped .some; disk = shaped .disk; whole = length-lift g (adjust-rule g disk offset new) s ∙ shaped .whole }
+
 -- the stretch set after the parities are adjusted is the write
-pub write-in-two : (g : Geometry) (s : List ℕ) (disk offset : ℕ) (new : List ℕ) → Whole g s → Stretch g disk offset (length new)
+pub write-in-two : (g : Geometry) (s : List ℕ) (disk offset : ℕ) (new : List ℕ) → WellShaped g s → Stretch g disk offset (length new)
     → spliced (adjusted g disk offset new s) (start g disk + offset) new ≡ written g disk offset new s
 write-in-two g s disk offset new whole stretch =
-    by-columns g (whole .some) (spliced t (start g disk + offset) new) (written g disk offset new s) (length-spliced t (start g disk + offset) new inside ∙ len)
+    by-columns g (whole .some) (spliced t (start g disk + offset) new) (written g disk offset new s) (length-spliced t (start g disk + offset) new inside ∙ whole′ .whole)
     (length-lift g (λ i c. choose (covers offset (length new) i) (writeColumn reedSolomon (g .n) disk (getD new (i - offset) 0) c) c) s ∙ whole .whole)
     (λ i r hi hr.
     ap (λ (c : Column). c r) (spliced-column g t disk offset new whole′ stretch i hi)
-    ∙ both-parts (covers offset (length new) i) i r (lift-at g adjust-rule s (whole .whole) hi hr)
+    ∙ both-parts (covers offset (length new) i) i r (lift-at g (adjust-rule g disk offset new) s (whole .whole) hi hr)
     ∙ sym (lift-at g (λ i c. choose (covers offset (length new) i) (writeColumn reedSolomon (g .n) disk (getD new (i - offset) 0) c) c) s (whole .whole) hi hr))
   where
-    adjust-rule : ℕ → Column → Column
-    adjust-rule i c = choose (covers offset (length new) i) (adjustColumn reedSolomon (g .n) disk (getD new (i - offset) 0) c) c
-
     t : List ℕ
     t = adjusted g disk offset new s
 
-    len : length t ≡ size g
-    len = length-lift g adjust-rule s ∙ whole .whole
-
-    whole′ : Whole g t
-    whole′ = record { disks = whole .disks; block = whole .block; some = whole .some; disk = whole .disk; whole = len }
+    whole′ : WellShaped g t
+    whole′ = adjusted-shaped g disk offset new s whole
 
     inside : start g disk + offset + length new ≤ length t
     inside = stretch-inside g t disk offset (length new) (start g disk) whole′ stretch refl

@@ -3,17 +3,16 @@ use Prim.Native.Nat.{ℕ, zero, suc}
 use mathlib.Core.Path.{_≡_}
 use mathlib.Core.List.{List}
 use lib.ListN.{length}
-use Rattle.stripe.specs.declared.Geometry.{Geometry}
-use Rattle.stripe.specs.declared.Lost.{Lost}
+use Rattle.shape.specs.declared.Geometry.{Geometry}
+use Rattle.column.specs.declared.Lost.{Lost}
+use Rattle.shape.specs.declared.Naming.{Naming}
+use Rattle.shape.specs.declared.Naming.the-variants.{Loss, Wrong}
+use Rattle.shape.specs.Codes.{namingOf, namedRefusal}
+use Rattle.base.specs.Refusal.{unlessRefused}
 use Rattle.stripe.specs.declared.Checked.{Checked}
 use Rattle.stripe.specs.declared.Checked.the-variants.{Refused, Summary}
 use Rattle.stripe.specs.Stripe.{encoded, written, rebuilt, verdicts, summary}
-use Rattle.stripe.specs.Refusals.{encodeRefusal, writeRefusal, rebuildRefusal, checkRefusal}
-
--- what is left in a buffer: `done` where the refusal is 0, else what it held
-abbrev pub unlessRefused : ℕ → List ℕ → List ℕ → List ℕ
-unlessRefused zero done before = done
-unlessRefused (suc k) done before = before
+use Rattle.shape.specs.Refusals.{encodeRefusal, writeRefusal, rebuildRefusal, checkRefusal}
 
 -- the stripe after a call
 unfoldable pub afterEncode : Geometry → List ℕ → List ℕ
@@ -26,6 +25,11 @@ afterWrite g disk offset new s =
 unfoldable pub afterRebuild : Geometry → Lost → List ℕ → List ℕ
 afterRebuild g lost s = unlessRefused (rebuildRefusal g (length s) lost) (rebuilt g lost s) s
 
+-- the same where codes name the loss; those that name none are refused
+abbrev pub rebuiltBy : Geometry → Naming → List ℕ → List ℕ
+rebuiltBy g (Loss lost) s = afterRebuild g lost s
+rebuiltBy g Wrong s = s
+
 -- the verdict buffer after a check
 unfoldable pub afterCheck : Geometry → List ℕ → List ℕ → List ℕ
 afterCheck g s room = unlessRefused (checkRefusal g (length s) (length room)) (verdicts g s) room
@@ -35,9 +39,9 @@ abbrev pub numberOf : Checked → ℕ
 numberOf (Refused k) = k
 numberOf (Summary v) = 0
 
-abbrev pub answered : ℕ → ℕ → Checked
-answered zero v = Summary v
-answered (suc k) v = Refused (suc k)
+abbrev pub checkedOf : ℕ → ℕ → Checked
+checkedOf zero v = Summary v
+checkedOf (suc k) v = Refused (suc k)
 
 -- ---- the contracts: the result r and the final buffers, each equal to its definition
 pub record EncodeCall (g : Geometry) (before : List ℕ) (r : ℕ) (after : List ℕ) : Type 0 where
@@ -52,7 +56,12 @@ pub record RebuildCall (g : Geometry) (lost : Lost) (before : List ℕ) (r : ℕ
   pub result : r ≡ rebuildRefusal g (length before) lost
   pub stripe : after ≡ afterRebuild g lost before
 
+-- rebuild with the devices given by their codes
+pub record RebuildNamedCall (g : Geometry) (first second : ℕ) (before : List ℕ) (r : ℕ) (after : List ℕ) : Type 0 where
+  pub result : r ≡ namedRefusal g (length before) (namingOf first second)
+  pub stripe : after ≡ rebuiltBy g (namingOf first second) before
+
 pub record CheckCall (g : Geometry) (s before : List ℕ) (r : Checked) (after : List ℕ) : Type 0 where
   pub number : numberOf r ≡ checkRefusal g (length s) (length before)
-  pub result : r ≡ answered (checkRefusal g (length s) (length before)) (summary (verdicts g s))
+  pub result : r ≡ checkedOf (checkRefusal g (length s) (length before)) (summary (verdicts g s))
   pub room : after ≡ afterCheck g s before

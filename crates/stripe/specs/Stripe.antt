@@ -1,38 +1,16 @@
--- A stripe in its buffer, and how a function on columns is lifted to it.
-use Prim.Native.Nat.{ℕ, _+_, _*_, _-_, _/_, _%_}
+-- What the calls make of a stripe where they are not refused: functions on columns, lifted to the buffer.
+use Prim.Native.Nat.{ℕ, _+_, _-_}
 use mathlib.Core.List.{List, [], _∷_}
-use mathlib.Core.Bool.{Bool, not}
+use mathlib.Core.Bool.{Bool}
 use lib.Dec.{eqb, ltb, leb}
 use lib.ListN.{length, getD}
-use Rattle.stripe.specs.declared.Geometry.{Geometry}
-use Rattle.stripe.specs.declared.Lost.{Lost}
-use Rattle.stripe.specs.Choice.{choose, both, tabulate}
-use Rattle.stripe.specs.Column.{Column, reedSolomon, encodeColumn, writeColumn, rebuildColumn, verdict}
+use Rattle.base.specs.Choice.{choose, both}
+use Rattle.base.specs.Table.{tabulate}
+use Rattle.column.specs.declared.Lost.{Lost}
+use Rattle.column.specs.Column.{reedSolomon, encodeColumn, writeColumn, rebuildColumn, verdict}
+use Rattle.shape.specs.declared.Geometry.{Geometry}
+use Rattle.shape.specs.Layout.{column, lift}
 
--- The block of role r starts at r·B: data disk k at k·B, P at n·B, Q at (n+1)·B.
-unfoldable pub start : Geometry → ℕ → ℕ
-start g r = r * g .b
-
--- the length of the whole stripe
-abbrev pub size : Geometry → ℕ
-size g = (g .n + 2) * g .b
-
--- column i
-abbrev pub column : Geometry → List ℕ → ℕ → Column
-column g s i r = getD s (start g r + i) 0
-
--- the role whose block has place j, and the column of place j
-unfoldable pub roleAt : Geometry → ℕ → ℕ
-roleAt g j = j / g .b
-
-unfoldable pub columnAt : Geometry → ℕ → ℕ
-columnAt g j = j % g .b
-
--- Every column i becomes f i of what it was.
-unfoldable pub lift : Geometry → (ℕ → Column → Column) → List ℕ → List ℕ
-lift g f s = tabulate (length s) (λ j. f (columnAt g j) (column g s (columnAt g j)) (roleAt g j))
-
--- ---- the calls, where they are not refused
 abbrev pub encoded : Geometry → List ℕ → List ℕ
 encoded g s = lift g (λ i c. encodeColumn reedSolomon (g .n) c) s
 

@@ -1,48 +1,25 @@
 // A stripe of RAID-6 in one lent buffer: n data disks, then P and Q, a block of b bytes each.
 // Position i of all devices is column i. Every call takes any numbers and bytes; a refusal returns
 // its number and changes nothing.
+use column::Device;
+use column::Lost;
 use gf256::Element;
+use shape::Geometry;
+use shape::Naming;
 ghost use mathlib.Core.Path.{_≡_};
 ghost use Prim.Native.Nat.{_+_, _<_, _≤_};
 ghost use Rattle.gf256.specs.Field.{sum, power};
 ghost use lib.Dec.{eqb, ltb};
 ghost use lib.ListN.{length, set, getD};
-ghost use Rattle.stripe.specs.Column.{put, roleOf, coefficientA, coefficientB, reedSolomon, parityP, parityQ, syndromeP, syndromeQ, adjustColumn, verdict, verdictOf};
-ghost use Rattle.stripe.specs.Stripe.{start, column, lift, rebuilt, verdicts, summary};
-ghost use Rattle.stripe.specs.Parts.{Whole, Sound, Stretch, adjusted, spliced, Changed, Known, Parities, Fills, Chunk, Passed, putRole, emptied, without, solution, solved};
-ghost use Rattle.stripe.specs.Refusals.{encodeRefusal, unknown};
-ghost use Rattle.stripe.specs.Calls.{EncodeCall, WriteCall, RebuildCall, CheckCall};
-ghost use Rattle.stripe.specs.Codes.{namedBy, lossOf, RebuildNamedCall};
-ghost use Rattle.stripe.specs.Choice.{choose, tabulate};
-
-pub struct Geometry {
-    pub n: usize,
-    pub b: usize,
-}
-
-pub enum Device {
-    Data(usize),
-    P,
-    Q,
-}
-
-pub enum Lost {
-    One(Device),
-    Two(Device, Device),
-}
-
-// What a device code stands for.
-pub enum Named {
-    Device(Device),
-    Nothing,
-    Meaningless,
-}
-
-// What two codes name.
-pub enum Naming {
-    Loss(Lost),
-    Wrong,
-}
+ghost use Rattle.column.specs.Column.{put, coefficientA, coefficientB, reedSolomon, parityP, parityQ, syndromeP, syndromeQ, adjustColumn, verdict, verdictOf};
+ghost use Rattle.shape.specs.Layout.{start, column, lift};
+ghost use Rattle.stripe.specs.Stripe.{rebuilt, verdicts, summary};
+ghost use Rattle.shape.specs.Refusals.{WellShaped};
+ghost use Rattle.stripe.specs.Engine.{HasColumn, Stretch, adjusted, Changed, Parities, Fills, Chunk, ChunkMapped, putRole, emptied, without, solution, solved};
+ghost use Rattle.base.specs.Table.{spliced, tabulate};
+ghost use Rattle.column.specs.Loss.{Known, KnownLoss};
+ghost use Rattle.stripe.specs.Calls.{EncodeCall, WriteCall, RebuildCall, CheckCall, RebuildNamedCall};
+ghost use Rattle.base.specs.Choice.{choose};
 
 // What a check answers: a refusal's number, or the first verdict that isn't 0, or 0.
 pub enum Checked {
@@ -70,7 +47,7 @@ enum Rule {
 pub fn encode(g: Geometry, stripe: &mut [u8]) -> u8
     ensures { λ r. ⌜ EncodeCall g (now (stripe .entry)) r (now (stripe .exit)) ⌝ }
 {
-    let refused = g.refusal(stripe.len());
+    let refused = shape::encode_refusal(g, stripe.len());
     if refused != 0 {
         return refused;
     }
@@ -83,27 +60,54 @@ pub fn encode(g: Geometry, stripe: &mut [u8]) -> u8
 pub fn write(g: Geometry, stripe: &mut [u8], disk: usize, offset: usize, new: &[u8]) -> u8
     ensures { λ r. ⌜ WriteCall g disk offset (now (new .entry)) (now (stripe .entry)) r (now (stripe .exit)) ⌝ }
 {
-    let refused = g.refusal(stripe.len());
+    let refused = shape::write_refusal(g, stripe.len(), disk, offset, new.len());
     if refused != 0 {
         return refused;
-    }
-    if g.n <= disk {
-        return 4;
-    }
-    if g.b < offset {
-        return 6;
-    }
-    if g.b - offset < new.len() {
-        return 6;
     }
     adjust(g, stripe, disk, offset, new);
     set_stretch(g, stripe, disk, offset, new);
     0
 }
 
+// Replaces the bytes of the named devices by the only ones that fit.
+pub fn rebuild(g: Geometry, stripe: &mut [u8], lost: Lost) -> u8
+    ensures { λ r. ⌜ RebuildCall g lost (now (stripe .entry)) r (now (stripe .exit)) ⌝ }
+{
+    let refused = shape::rebuild_refusal(g, stripe.len(), lost);
+    if refused != 0 {
+        return refused;
+    }
+    restore_lost(g, stripe, lost);
+    0
+}
+
+// Rebuild with the devices given by their codes, as the job and C give them.
+pub fn rebuild_named(g: Geometry, stripe: &mut [u8], first: usize, second: usize) -> u8
+    ensures { λ r. ⌜ RebuildNamedCall g first second (now (stripe .entry)) r (now (stripe .exit)) ⌝ }
+{
+    match shape::naming_of(first, second) {
+        Naming::Loss(lost) => rebuild(g, stripe, lost),
+        Naming::Wrong => shape::named_refusal(g, stripe.len(), first, second),
+    }
+}
+
+// Compares the stored parities with those that the data give: a verdict for each column, and the
+// first that isn't 0.
+pub fn check(g: Geometry, stripe: &[u8], verdicts: &mut [u16]) -> Checked
+    ensures { λ r. ⌜ CheckCall g (now (stripe .entry)) (now (verdicts .entry)) r (now (verdicts .exit)) ⌝ }
+{
+    let refused = shape::check_refusal(g, stripe.len(), verdicts.len());
+    if refused != 0 {
+        return Checked::Refused(refused);
+    }
+    Checked::Summary(check_columns(g, stripe, verdicts))
+}
+
+// ---- write
+
 // Only the stretch is lent on, so that nothing around it can change.
 fn set_stretch(g: Geometry, stripe: &mut [u8], role: usize, offset: usize, new: &[u8])
-    requires { ⌜ Whole g (now stripe) × Stretch g role offset (length (now new)) ⌝ }
+    requires { ⌜ WellShaped g (now stripe) × Stretch g role offset (length (now new)) ⌝ }
     ensures { λ _. ⌜ now (stripe .exit) ≡ spliced (now (stripe .entry)) (start g role + offset) (now (new .entry)) ⌝ }
 {
     let from = g.start(role) + offset;
@@ -124,7 +128,7 @@ fn copy(to: &mut [u8], from: &[u8])
 
 // P and Q of the columns that a write covers.
 fn adjust(g: Geometry, stripe: &mut [u8], disk: usize, offset: usize, new: &[u8])
-    requires { ⌜ Whole g (now stripe) × Stretch g disk offset (length (now new)) × (disk < g .n) ⌝ }
+    requires { ⌜ WellShaped g (now stripe) × Stretch g disk offset (length (now new)) × (disk < g .n) ⌝ }
     ensures { λ _. ⌜ now (stripe .exit) ≡ adjusted g disk offset (now (new .entry)) (now (stripe .entry)) ⌝ }
 {
     let c = Element(2).power(disk as u64);
@@ -144,8 +148,8 @@ fn adjust(g: Geometry, stripe: &mut [u8], disk: usize, offset: usize, new: &[u8]
 
 // P and Q of 64 columns.
 fn adjust_chunk(g: Geometry, stripe: &mut [u8], disk: usize, i: usize, c: u8, new: &[u8])
-    requires { ⌜ Whole g (now stripe) × (i + 64 ≤ g .b) × (disk < g .n) × (c ≡ power 2 disk) × (length (now new) ≡ 64) ⌝ }
-    ensures { λ _. ⌜ Passed g i (λ j col. adjustColumn reedSolomon (g .n) disk (getD (now (new .entry)) j 0) col) (now (stripe .entry)) (now (stripe .exit)) ⌝ }
+    requires { ⌜ WellShaped g (now stripe) × (i + 64 ≤ g .b) × (disk < g .n) × (c ≡ power 2 disk) × (length (now new) ≡ 64) ⌝ }
+    ensures { λ _. ⌜ ChunkMapped g i (λ j col. adjustColumn reedSolomon (g .n) disk (getD (now (new .entry)) j 0) col) (now (stripe .entry)) (now (stripe .exit)) ⌝ }
 {
     let mut change = load(g, stripe, i, disk);
     let d = chunk_of(new);
@@ -159,7 +163,7 @@ fn adjust_chunk(g: Geometry, stripe: &mut [u8], disk: usize, i: usize, c: u8, ne
 
 // P and Q of column i after data disk `disk`, whose coefficient is c, gets a new byte there.
 fn changed(g: Geometry, stripe: &[u8], i: usize, disk: usize, c: Element, new: u8) -> Pair
-    requires { ⌜ Sound g (now stripe) i × (disk < g .n) × (c .0 ≡ power 2 disk) ⌝ }
+    requires { ⌜ HasColumn g (now stripe) i × (disk < g .n) × (c .0 ≡ power 2 disk) ⌝ }
     ensures { λ r. ⌜ Changed (g .n) disk new (column g (now (stripe .entry)) i) (r .0) (r .1) ⌝ }
 {
     let change = byte(g, stripe, i, disk).sum(Element(new));
@@ -168,120 +172,20 @@ fn changed(g: Geometry, stripe: &[u8], i: usize, disk: usize, c: Element, new: u
     Pair(p.0, q.0)
 }
 
-// Replaces the bytes of the named devices by the only ones that fit.
-pub fn rebuild(g: Geometry, stripe: &mut [u8], lost: Lost) -> u8
-    ensures { λ r. ⌜ RebuildCall g lost (now (stripe .entry)) r (now (stripe .exit)) ⌝ }
-{
-    let refused = g.refusal(stripe.len());
-    if refused != 0 {
-        return refused;
-    }
-    match lost {
-        Lost::One(device) => rebuild_one(g, stripe, device),
-        Lost::Two(first, second) => rebuild_two(g, stripe, first, second),
-    }
-}
+// ---- check
 
-// Rebuild with the devices given by their codes, as the job and C give them.
-pub fn rebuild_named(g: Geometry, stripe: &mut [u8], first: usize, second: usize) -> u8
-    ensures { λ r. ⌜ RebuildNamedCall g first second (now (stripe .entry)) r (now (stripe .exit)) ⌝ }
-{
-    match loss_of(decode(first), decode(second)) {
-        Naming::Loss(lost) => rebuild(g, stripe, lost),
-        Naming::Wrong => {
-            let refused = g.refusal(stripe.len());
-            if refused != 0 { refused } else { 4 }
-        }
-    }
-}
-
-fn decode(code: usize) -> Named
-    ensures { λ r. ⌜ r ≡ namedBy code ⌝ }
-{
-    if code < 255 {
-        return Named::Device(Device::Data(code));
-    }
-    if code == 256 {
-        return Named::Device(Device::P);
-    }
-    if code == 257 {
-        return Named::Device(Device::Q);
-    }
-    if code == 65535 {
-        return Named::Nothing;
-    }
-    Named::Meaningless
-}
-
-fn loss_of(first: Named, second: Named) -> Naming
-    ensures { λ r. ⌜ r ≡ lossOf first second ⌝ }
-{
-    match first {
-        Named::Device(d) => match second {
-            Named::Device(e) => Naming::Loss(Lost::Two(d, e)),
-            Named::Nothing => Naming::Loss(Lost::One(d)),
-            Named::Meaningless => Naming::Wrong,
-        },
-        Named::Nothing => Naming::Wrong,
-        Named::Meaningless => Naming::Wrong,
-    }
-}
-
-fn rebuild_one(g: Geometry, stripe: &mut [u8], lost: Device) -> u8
-    requires { ⌜ encodeRefusal g (length (now stripe)) ≡ 0 ⌝ }
-    ensures { λ r. ⌜ RebuildCall g (Lost.One lost) (now (stripe .entry)) r (now (stripe .exit)) ⌝ }
-{
-    if g.lacks(lost) {
-        return 4;
-    }
-    restore_one(g, stripe, lost);
-    0
-}
-
-fn rebuild_two(g: Geometry, stripe: &mut [u8], first: Device, second: Device) -> u8
-    requires { ⌜ encodeRefusal g (length (now stripe)) ≡ 0 ⌝ }
-    ensures { λ r. ⌜ RebuildCall g (Lost.Two first second) (now (stripe .entry)) r (now (stripe .exit)) ⌝ }
-{
-    if g.lacks(first) {
-        return 4;
-    }
-    if g.lacks(second) {
-        return 4;
-    }
-    if g.role(first) == g.role(second) {
-        return 5;
-    }
-    restore_two(g, stripe, first, second);
-    0
-}
-
-// Compares the stored parities with those that the data give: a verdict for each column, and the
-// first that isn't 0.
-pub fn check(g: Geometry, stripe: &[u8], verdicts: &mut [u16]) -> Checked
-    ensures { λ r. ⌜ CheckCall g (now (stripe .entry)) (now (verdicts .entry)) r (now (verdicts .exit)) ⌝ }
-{
-    let refused = g.refusal(stripe.len());
-    if refused != 0 {
-        return Checked::Refused(refused);
-    }
-    if verdicts.len() != g.b {
-        return Checked::Refused(7);
-    }
-    Checked::Summary(judge_columns(g, stripe, verdicts))
-}
-
-fn judge_columns(g: Geometry, stripe: &[u8], room: &mut [u16]) -> u16
-    requires { ⌜ Whole g (now stripe) × (length (now room) ≡ g .b) ⌝ }
+fn check_columns(g: Geometry, stripe: &[u8], room: &mut [u16]) -> u16
+    requires { ⌜ WellShaped g (now stripe) × (length (now room) ≡ g .b) ⌝ }
     ensures { λ r. ⌜ (r ≡ summary (verdicts g (now (stripe .entry)))) × (now (room .exit) ≡ verdicts g (now (stripe .entry))) ⌝ }
 {
     let mut found = 0;
     let mut i = 0;
     while 64 <= g.b - i {
-        found = first_nonzero(found, judge_chunk(g, stripe, i, &mut room[i..i + 64]));
+        found = first_nonzero(found, check_chunk(g, stripe, i, &mut room[i..i + 64]));
         i += 64;
     }
     while i < g.b {
-        let verdict = judge_column(g, stripe, i);
+        let verdict = column_verdict(g, stripe, i);
         room[i] = verdict;
         found = first_nonzero(found, verdict);
         i += 1;
@@ -297,8 +201,8 @@ fn first_nonzero(a: u16, b: u16) -> u16
 
 // The verdicts on 64 columns, and the first that isn't 0. A chunk without differences, the common
 // case, is told by one test.
-fn judge_chunk(g: Geometry, stripe: &[u8], i: usize, room: &mut [u16]) -> u16
-    requires { ⌜ Whole g (now stripe) × (i + 64 ≤ g .b) × (length (now room) ≡ 64) ⌝ }
+fn check_chunk(g: Geometry, stripe: &[u8], i: usize, room: &mut [u16]) -> u16
+    requires { ⌜ WellShaped g (now stripe) × (i + 64 ≤ g .b) × (length (now room) ≡ 64) ⌝ }
     ensures { λ r. ⌜ (r ≡ summary (tabulate 64 (λ j. verdict (g .n) (column g (now (stripe .entry)) (i + j))))) × (now (room .exit) ≡ tabulate 64 (λ j. verdict (g .n) (column g (now (stripe .entry)) (i + j)))) ⌝ }
 {
     let s = chunk_parities(g, stripe, i);
@@ -312,7 +216,7 @@ fn judge_chunk(g: Geometry, stripe: &[u8], i: usize, room: &mut [u16]) -> u16
         fill_zero(room);
         return 0;
     }
-    judge_places(g.n, &p, &q, room)
+    check_places(g.n, &p, &q, room)
 }
 
 fn fill_zero(room: &mut [u16])
@@ -325,33 +229,33 @@ fn fill_zero(room: &mut [u16])
     }
 }
 
-fn judge_places(n: usize, p: &[u8; 64], q: &[u8; 64], room: &mut [u16]) -> u16
+fn check_places(n: usize, p: &[u8; 64], q: &[u8; 64], room: &mut [u16]) -> u16
     requires { ⌜ (n ≤ 255) × (length (now room) ≡ 64) ⌝ }
     ensures { λ r. ⌜ (r ≡ summary (tabulate 64 (λ j. verdictOf n (getD (now (p .entry)) j 0) (getD (now (q .entry)) j 0)))) × (now (room .exit) ≡ tabulate 64 (λ j. verdictOf n (getD (now (p .entry)) j 0) (getD (now (q .entry)) j 0))) ⌝ }
 {
     let mut found = 0;
     let mut j = 0;
     while j < 64 {
-        let told = judge(n, Element(p[j]), Element(q[j]));
-        room[j] = told;
-        found = first_nonzero(found, told);
+        let verdict = verdict_of(n, Element(p[j]), Element(q[j]));
+        room[j] = verdict;
+        found = first_nonzero(found, verdict);
         j += 1;
     }
     found
 }
 
-fn judge_column(g: Geometry, stripe: &[u8], i: usize) -> u16
-    requires { ⌜ Sound g (now stripe) i ⌝ }
+fn column_verdict(g: Geometry, stripe: &[u8], i: usize) -> u16
+    requires { ⌜ HasColumn g (now stripe) i ⌝ }
     ensures { λ r. ⌜ r ≡ verdict (g .n) (column g (now (stripe .entry)) i) ⌝ }
 {
     let now = parities(g, stripe, i, g.n, g.n);
     let p = byte(g, stripe, i, g.n).sum(Element(now.0));
     let q = byte(g, stripe, i, g.n + 1).sum(Element(now.1));
-    judge(g.n, p, q)
+    verdict_of(g.n, p, q)
 }
 
 // The four rows of the paper's table, and equation 27.
-fn judge(n: usize, p: Element, q: Element) -> u16
+fn verdict_of(n: usize, p: Element, q: Element) -> u16
     requires { ⌜ n ≤ 255 ⌝ }
     ensures { λ r. ⌜ r ≡ verdictOf n (p .0) (q .0) ⌝ }
 {
@@ -371,69 +275,16 @@ fn judge(n: usize, p: Element, q: Element) -> u16
     (16 + z) as u16
 }
 
-impl Geometry {
-    // Refusals 1, 2 and 3, with which every call begins; 0 where none applies.
-    fn refusal(self, len: usize) -> u8
-        ensures { λ r. ⌜ r ≡ encodeRefusal self len ⌝ }
-    {
-        if self.n == 0 {
-            return 1;
-        }
-        if 255 < self.n {
-            return 1;
-        }
-        if self.b == 0 {
-            return 2;
-        }
-        if 4096 < self.b {
-            return 2;
-        }
-        if len != (self.n + 2) * self.b {
-            return 3;
-        }
-        0
-    }
-
-    // Where the block of a role begins.
-    fn start(self, role: usize) -> usize
-        requires { ⌜ (self .n ≤ 255) × (self .b ≤ 4096) × (role < self .n + 2) ⌝ }
-        ensures { λ r. ⌜ r ≡ start self role ⌝ }
-    {
-        role * self.b
-    }
-
-    fn lacks(self, device: Device) -> bool
-        ensures { λ r. ⌜ r ≡ unknown self device ⌝ }
-    {
-        match device {
-            Device::Data(k) => self.n <= k,
-            Device::P => false,
-            Device::Q => false,
-        }
-    }
-
-    fn role(self, device: Device) -> usize
-        requires { ⌜ self .n ≤ 255 ⌝ }
-        ensures { λ r. ⌜ r ≡ roleOf (self .n) device ⌝ }
-    {
-        match device {
-            Device::Data(k) => k,
-            Device::P => self.n,
-            Device::Q => self.n + 1,
-        }
-    }
-}
-
 // The byte of a role in column i.
 fn byte(g: Geometry, stripe: &[u8], i: usize, role: usize) -> Element
-    requires { ⌜ Sound g (now stripe) i × (role < g .n + 2) ⌝ }
+    requires { ⌜ HasColumn g (now stripe) i × (role < g .n + 2) ⌝ }
     ensures { λ r. ⌜ r .0 ≡ column g (now (stripe .entry)) i role ⌝ }
 {
     Element(stripe[g.start(role) + i])
 }
 
 fn store(g: Geometry, stripe: &mut [u8], i: usize, role: usize, new: u8)
-    requires { ⌜ Sound g (now stripe) i × (role < g .n + 2) ⌝ }
+    requires { ⌜ HasColumn g (now stripe) i × (role < g .n + 2) ⌝ }
     ensures { λ _. ⌜ now (stripe .exit) ≡ set (now (stripe .entry)) (start g role + i) new ⌝ }
 {
     let at = g.start(role) + i;
@@ -442,7 +293,7 @@ fn store(g: Geometry, stripe: &mut [u8], i: usize, role: usize, new: u8)
 
 // The byte of a role in column i, or 00 where the role is x or y.
 fn byte_but(g: Geometry, stripe: &[u8], i: usize, role: usize, x: usize, y: usize) -> Element
-    requires { ⌜ Sound g (now stripe) i × (role < g .n + 2) ⌝ }
+    requires { ⌜ HasColumn g (now stripe) i × (role < g .n + 2) ⌝ }
     ensures { λ r. ⌜ r .0 ≡ put x 0 (put y 0 (column g (now (stripe .entry)) i)) role ⌝ }
 {
     if role == x {
@@ -457,7 +308,7 @@ fn byte_but(g: Geometry, stripe: &[u8], i: usize, role: usize, x: usize, y: usiz
 // P and Q of column i as the data give them, with data disks x and y taken as 00: equations 1 and
 // 2, the second by Horner's rule (equation 21) from the highest disk down.
 fn parities(g: Geometry, stripe: &[u8], i: usize, x: usize, y: usize) -> Pair
-    requires { ⌜ Sound g (now stripe) i ⌝ }
+    requires { ⌜ HasColumn g (now stripe) i ⌝ }
     ensures { λ r. ⌜ Parities (g .n) (put x 0 (put y 0 (column g (now (stripe .entry)) i))) (r .0) (r .1) ⌝ }
 {
     let mut p = Element(0);
@@ -474,8 +325,18 @@ fn parities(g: Geometry, stripe: &[u8], i: usize, x: usize, y: usize) -> Pair
 
 // ---- the rows of the table of losses
 
+fn restore_lost(g: Geometry, stripe: &mut [u8], lost: Lost)
+    requires { ⌜ WellShaped g (now stripe) × KnownLoss (g .n) lost ⌝ }
+    ensures { λ _. ⌜ now (stripe .exit) ≡ rebuilt g lost (now (stripe .entry)) ⌝ }
+{
+    match lost {
+        Lost::One(device) => restore_one(g, stripe, device),
+        Lost::Two(first, second) => restore_two(g, stripe, first, second),
+    }
+}
+
 fn restore_one(g: Geometry, stripe: &mut [u8], lost: Device)
-    requires { ⌜ Whole g (now stripe) × Known (g .n) lost ⌝ }
+    requires { ⌜ WellShaped g (now stripe) × Known (g .n) lost ⌝ }
     ensures { λ _. ⌜ now (stripe .exit) ≡ rebuilt g (Lost.One lost) (now (stripe .entry)) ⌝ }
 {
     match lost {
@@ -486,7 +347,7 @@ fn restore_one(g: Geometry, stripe: &mut [u8], lost: Device)
 }
 
 fn restore_two(g: Geometry, stripe: &mut [u8], first: Device, second: Device)
-    requires { ⌜ Whole g (now stripe) × Known (g .n) first × Known (g .n) second ⌝ }
+    requires { ⌜ WellShaped g (now stripe) × Known (g .n) first × Known (g .n) second ⌝ }
     ensures { λ _. ⌜ now (stripe .exit) ≡ rebuilt g (Lost.Two first second) (now (stripe .entry)) ⌝ }
 {
     match first {
@@ -510,7 +371,7 @@ fn restore_two(g: Geometry, stripe: &mut [u8], first: Device, second: Device)
 
 // Equations 17 to 20.
 fn two_data(g: Geometry, stripe: &mut [u8], x: usize, y: usize)
-    requires { ⌜ Whole g (now stripe) × (x < g .n) × (y < g .n) ⌝ }
+    requires { ⌜ WellShaped g (now stripe) × (x < g .n) × (y < g .n) ⌝ }
     ensures { λ _. ⌜ now (stripe .exit) ≡ rebuilt g (Lost.Two (Device.Data x) (Device.Data y)) (now (stripe .entry)) ⌝ }
 {
     let c = coefficients(x, y);
@@ -519,7 +380,7 @@ fn two_data(g: Geometry, stripe: &mut [u8], x: usize, y: usize)
 
 // Equation 5, then equation 1.
 fn data_and_p(g: Geometry, stripe: &mut [u8], x: usize)
-    requires { ⌜ Whole g (now stripe) × (x < g .n) ⌝ }
+    requires { ⌜ WellShaped g (now stripe) × (x < g .n) ⌝ }
     ensures { λ _. ⌜ now (stripe .exit) ≡ rebuilt g (Lost.Two (Device.Data x) Device.P) (now (stripe .entry)) ⌝ }
 {
     let c = Element(2).power(x as u64).inverse();
@@ -528,7 +389,7 @@ fn data_and_p(g: Geometry, stripe: &mut [u8], x: usize)
 
 // Equation 1, then equation 2.
 fn data_and_q(g: Geometry, stripe: &mut [u8], x: usize)
-    requires { ⌜ Whole g (now stripe) × (x < g .n) ⌝ }
+    requires { ⌜ WellShaped g (now stripe) × (x < g .n) ⌝ }
     ensures { λ _. ⌜ now (stripe .exit) ≡ rebuilt g (Lost.Two (Device.Data x) Device.Q) (now (stripe .entry)) ⌝ }
 {
     restore_one(g, stripe, Device::Data(x));
@@ -551,7 +412,7 @@ fn coefficients(x: usize, y: usize) -> Pair
 
 // The roles x and y get their bytes; a role past n + 1 stands for no device.
 fn restore(g: Geometry, stripe: &mut [u8], x: usize, y: usize, rule: Rule)
-    requires { ⌜ Whole g (now stripe) ⌝ }
+    requires { ⌜ WellShaped g (now stripe) ⌝ }
     ensures { λ _. ⌜ now (stripe .exit) ≡ lift g (λ i c. solved (g .n) x y rule c) (now (stripe .entry)) ⌝ }
 {
     if g.b < 64 {
@@ -562,7 +423,7 @@ fn restore(g: Geometry, stripe: &mut [u8], x: usize, y: usize, rule: Rule)
 }
 
 fn restore_columns(g: Geometry, stripe: &mut [u8], x: usize, y: usize, rule: Rule)
-    requires { ⌜ Whole g (now stripe) ⌝ }
+    requires { ⌜ WellShaped g (now stripe) ⌝ }
     ensures { λ _. ⌜ now (stripe .exit) ≡ lift g (λ i c. solved (g .n) x y rule c) (now (stripe .entry)) ⌝ }
 {
     let mut i = 0;
@@ -576,7 +437,7 @@ fn restore_columns(g: Geometry, stripe: &mut [u8], x: usize, y: usize, rule: Rul
 
 // The bytes of the lost roles in column i.
 fn solve(g: Geometry, stripe: &[u8], i: usize, x: usize, y: usize, rule: Rule) -> Pair
-    requires { ⌜ Sound g (now stripe) i ⌝ }
+    requires { ⌜ HasColumn g (now stripe) i ⌝ }
     ensures { λ r. ⌜ Fills (solution rule (syndromeP (g .n) (without x y (column g (now (stripe .entry)) i))) (syndromeQ reedSolomon (g .n) (without x y (column g (now (stripe .entry)) i)))) (r .0) (r .1) ⌝ }
 {
     let rest = parities(g, stripe, i, x, y);
@@ -593,7 +454,7 @@ fn solve(g: Geometry, stripe: &[u8], i: usize, x: usize, y: usize, rule: Rule) -
 }
 
 fn store_role(g: Geometry, stripe: &mut [u8], i: usize, role: usize, new: u8)
-    requires { ⌜ Sound g (now stripe) i ⌝ }
+    requires { ⌜ HasColumn g (now stripe) i ⌝ }
     ensures { λ _. ⌜ now (stripe .exit) ≡ choose (ltb role (g .n + 2)) (set (now (stripe .entry)) (start g role + i) new) (now (stripe .entry)) ⌝ }
 {
     if role < g.n + 2 {
@@ -606,7 +467,7 @@ fn store_role(g: Geometry, stripe: &mut [u8], i: usize, role: usize, new: u8)
 // The last chunk begins 64 columns before the end, also where it repeats columns of the one before:
 // a column that is restored again stays.
 fn restore_chunks(g: Geometry, stripe: &mut [u8], x: usize, y: usize, rule: Rule)
-    requires { ⌜ Whole g (now stripe) × (64 ≤ g .b) ⌝ }
+    requires { ⌜ WellShaped g (now stripe) × (64 ≤ g .b) ⌝ }
     ensures { λ _. ⌜ now (stripe .exit) ≡ lift g (λ i c. solved (g .n) x y rule c) (now (stripe .entry)) ⌝ }
 {
     let mut i = 0;
@@ -618,8 +479,8 @@ fn restore_chunks(g: Geometry, stripe: &mut [u8], x: usize, y: usize, rule: Rule
 }
 
 fn restore_chunk(g: Geometry, stripe: &mut [u8], i: usize, x: usize, y: usize, rule: Rule)
-    requires { ⌜ Whole g (now stripe) × (i + 64 ≤ g .b) ⌝ }
-    ensures { λ _. ⌜ Passed g i (λ j c. solved (g .n) x y rule c) (now (stripe .entry)) (now (stripe .exit)) ⌝ }
+    requires { ⌜ WellShaped g (now stripe) × (i + 64 ≤ g .b) ⌝ }
+    ensures { λ _. ⌜ ChunkMapped g i (λ j c. solved (g .n) x y rule c) (now (stripe .entry)) (now (stripe .exit)) ⌝ }
 {
     let s = survivors(g, stripe, i, x, y);
     let mut p = s.p;
@@ -639,8 +500,8 @@ fn restore_chunk(g: Geometry, stripe: &mut [u8], i: usize, x: usize, y: usize, r
 // The two sums of each column without the roles x and y. Lost data are set to 00, so that the loop
 // over the disks need not test for them.
 fn survivors(g: Geometry, stripe: &mut [u8], i: usize, x: usize, y: usize) -> Sums
-    requires { ⌜ Whole g (now stripe) × (i + 64 ≤ g .b) ⌝ }
-    ensures { λ r. ⌜ Passed g i (λ j c. emptied (g .n) x (emptied (g .n) y c)) (now (stripe .entry)) (now (stripe .exit))
+    requires { ⌜ WellShaped g (now stripe) × (i + 64 ≤ g .b) ⌝ }
+    ensures { λ r. ⌜ ChunkMapped g i (λ j c. emptied (g .n) x (emptied (g .n) y c)) (now (stripe .entry)) (now (stripe .exit))
         × Chunk (λ j. syndromeP (g .n) (without x y (column g (now (stripe .entry)) (i + j)))) (r .p)
         × Chunk (λ j. syndromeQ reedSolomon (g .n) (without x y (column g (now (stripe .entry)) (i + j)))) (r .q) ⌝ }
 {
@@ -657,7 +518,7 @@ fn survivors(g: Geometry, stripe: &mut [u8], i: usize, x: usize, y: usize) -> Su
 // P and Q of each column as the data give them: equations 1 and 2, the second by Horner's rule
 // (equation 21) from the highest disk down.
 fn chunk_parities(g: Geometry, stripe: &[u8], i: usize) -> Sums
-    requires { ⌜ Whole g (now stripe) × (i + 64 ≤ g .b) ⌝ }
+    requires { ⌜ WellShaped g (now stripe) × (i + 64 ≤ g .b) ⌝ }
     ensures { λ r. ⌜ Chunk (λ j. parityP (g .n) (column g (now (stripe .entry)) (i + j))) (r .p)
         × Chunk (λ j. parityQ reedSolomon (g .n) (column g (now (stripe .entry)) (i + j))) (r .q) ⌝ }
 {
@@ -682,7 +543,7 @@ fn add_stored(
     y: usize,
     a: &mut [u8; 64],
 )
-    requires { ⌜ Whole g (now stripe) × (i + 64 ≤ g .b) × (role < g .n + 2) ⌝ }
+    requires { ⌜ WellShaped g (now stripe) × (i + 64 ≤ g .b) × (role < g .n + 2) ⌝ }
     ensures { λ _. ⌜ Chunk (λ j. sum (without x y (column g (now (stripe .entry)) (i + j)) role) (getD (now (a .entry)) j 0)) (now (a .exit)) ⌝ }
 {
     if role != x {
@@ -695,7 +556,7 @@ fn add_stored(
 
 // The bytes of a role in the 64 columns from i on.
 fn load(g: Geometry, stripe: &[u8], i: usize, role: usize) -> [u8; 64]
-    requires { ⌜ Whole g (now stripe) × (i + 64 ≤ g .b) × (role < g .n + 2) ⌝ }
+    requires { ⌜ WellShaped g (now stripe) × (i + 64 ≤ g .b) × (role < g .n + 2) ⌝ }
     ensures { λ r. ⌜ Chunk (λ j. column g (now (stripe .entry)) (i + j) role) r ⌝ }
 {
     let at = g.start(role) + i;
@@ -712,8 +573,8 @@ fn chunk_of(from: &[u8]) -> [u8; 64]
 }
 
 fn clear(g: Geometry, stripe: &mut [u8], i: usize, role: usize)
-    requires { ⌜ Whole g (now stripe) × (i + 64 ≤ g .b) ⌝ }
-    ensures { λ _. ⌜ Passed g i (λ j c. emptied (g .n) role c) (now (stripe .entry)) (now (stripe .exit)) ⌝ }
+    requires { ⌜ WellShaped g (now stripe) × (i + 64 ≤ g .b) ⌝ }
+    ensures { λ _. ⌜ ChunkMapped g i (λ j c. emptied (g .n) role c) (now (stripe .entry)) (now (stripe .exit)) ⌝ }
 {
     if role < g.n {
         let zero = [0u8; 64];
@@ -730,16 +591,16 @@ fn set_roles(
     first: [u8; 64],
     second: [u8; 64],
 )
-    requires { ⌜ Whole g (now stripe) × (i + 64 ≤ g .b) ⌝ }
-    ensures { λ _. ⌜ Passed g i (λ j c. putRole (g .n) x (getD first j 0) (putRole (g .n) y (getD second j 0) c)) (now (stripe .entry)) (now (stripe .exit)) ⌝ }
+    requires { ⌜ WellShaped g (now stripe) × (i + 64 ≤ g .b) ⌝ }
+    ensures { λ _. ⌜ ChunkMapped g i (λ j c. putRole (g .n) x (getD first j 0) (putRole (g .n) y (getD second j 0) c)) (now (stripe .entry)) (now (stripe .exit)) ⌝ }
 {
     set_role(g, stripe, i, y, second);
     set_role(g, stripe, i, x, first);
 }
 
 fn set_role(g: Geometry, stripe: &mut [u8], i: usize, role: usize, new: [u8; 64])
-    requires { ⌜ Whole g (now stripe) × (i + 64 ≤ g .b) ⌝ }
-    ensures { λ _. ⌜ Passed g i (λ j c. putRole (g .n) role (getD new j 0) c) (now (stripe .entry)) (now (stripe .exit)) ⌝ }
+    requires { ⌜ WellShaped g (now stripe) × (i + 64 ≤ g .b) ⌝ }
+    ensures { λ _. ⌜ ChunkMapped g i (λ j c. putRole (g .n) role (getD new j 0) c) (now (stripe .entry)) (now (stripe .exit)) ⌝ }
 {
     if role < g.n + 2 {
         set_stretch(g, stripe, role, i, &new);

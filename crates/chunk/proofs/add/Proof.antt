@@ -5,12 +5,12 @@ use native.Mathlib.Omega.{arith}
 use borrow.Author.Needs.{needs}
 use lib.ListN.{getD}
 use Rattle.gf256.specs.Field.{sum}
-use Rattle.chunk.proofs.Places.{Filled, fill-none, fill-more, fill-all}
+use Rattle.base.proofs.Fill.{Filled, fill-none, fill-more, fill-all}
 use Rattle.chunk.proofs.add.Statement.{statement}
 use Rattle.chunk.proofs.add.Tie as tie
 
 abbrev Inv-loop : tie.InvT-loop
-Inv-loop a₀ d j₀ a j = (j ≤ 64) × Filled (λ j v. sum v (getD d j 0)) a₀ a j
+Inv-loop a₀ d j₀ a j = (j ≤ 64) × Filled (λ j v. sum v (getD d j 0)) 64 a₀ a j
 
 abbrev μ-loop : tie.MeasureT-loop
 μ-loop a₀ d j₀ a j = 64 - j

@@ -6,15 +6,15 @@ use native.Mathlib.Omega.{arith}
 use borrow.Author.Needs.{needs}
 use lib.ListN.{getD}
 use Rattle.gf256.specs.Field.{sum, double}
-use Rattle.chunk.proofs.Places.{Filled, fill-none, fill-more, fill-all}
+use Rattle.base.proofs.Fill.{Filled, fill-none, fill-more, fill-all}
 use Rattle.chunk.proofs.add_disk.Statement.{statement}
 use Rattle.chunk.proofs.add_disk.Tie as tie
 
 abbrev Inv-loop : tie.InvT-loop
 Inv-loop p₀ q₀ d i₀ p q i =
     (i ≤ 64)
-    × Filled (λ j v. sum v (getD d j 0)) p₀ p i
-    × Filled (λ j v. sum (double v) (getD d j 0)) q₀ q i
+    × Filled (λ j v. sum v (getD d j 0)) 64 p₀ p i
+    × Filled (λ j v. sum (double v) (getD d j 0)) 64 q₀ q i
 
 abbrev μ-loop : tie.MeasureT-loop
 μ-loop p₀ q₀ d i₀ p q i = 64 - i

@@ -8,7 +8,7 @@ use mir.Syntax.{w8}
 use borrow.Author.Needs.{needs, elem-fits}
 use lib.ListN.{length, getD}
 use Rattle.gf256.specs.Field.{sum, double, product}
-use Rattle.chunk.proofs.Places.{each-at, length-each, is-each}
+use Rattle.base.proofs.Table.{length-tabulate, getD-tabulate, is-tabulate}
 use Rattle.chunk.proofs.Digits.{double-lt, no-digit, even-digit, odd-digit}
 use Rattle.chunk.proofs.add_product.Statement.{statement}
 use Rattle.chunk.proofs.add_product.Tie as tie
@@ -48,7 +48,7 @@ digit c =
     ⊎-elim
     (λ w.
     let a = w .4 ∙ w .3 .ensures in
-    (ap length a ∙ length-each _, λ j p. rw (a, each-at) (odd-digit (l .inv .0) (l .inv .2 j p) (getD (l .a) j 0) (w .0 .taken))))
+    (ap length a ∙ length-tabulate _ _, λ j p. rw (a, getD-tabulate) (odd-digit (l .inv .0) (l .inv .2 j p) (getD (l .a) j 0) (w .0 .taken))))
     (λ w.
     (ap length (w .1) ∙ l .inv .1, λ j p. rw (w .1) (even-digit (l .inv .0) (l .inv .2 j p) (getD (l .a) j 0) (omega (arith, w .0 .left)))))
     (c .if1 .came)
@@ -60,14 +60,14 @@ loop-again c =
     let x = c .double .ensures in (
       omega arith,
       here .0,
-      λ j p. rw (x, each-at) (double-lt (getD (l .x) j 0) (l .inv .2 j p)),
-      λ j p. rw (x, each-at) (here .1 j p ∙ l .inv .3 j p),
+      λ j p. rw (x, getD-tabulate) (double-lt (getD (l .x) j 0) (l .inv .2 j p)),
+      λ j p. rw (x, getD-tabulate) (here .1 j p ∙ l .inv .3 j p),
     )
 
 returns : tie.Need-returns Inv-loop μ-loop
 returns c =
     let l = c .before .loop in
-    is-each _ (l .a) (l .inv .1)
+    is-tabulate 64 _ (l .a) (l .inv .1)
     (λ j p. sym (no-digit (getD (l .a) j 0) (getD (l .x) j 0) (c .loop-test .left)) ∙ l .inv .3 j p)
 
 pub add-product-spec : {M : Type 1} → statement M

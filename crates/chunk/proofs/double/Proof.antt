@@ -4,12 +4,12 @@ use Prim.Native.Nat.{_-_, _≤_}
 use native.Mathlib.Omega.{arith}
 use borrow.Author.Needs.{needs}
 use Rattle.gf256.specs.Field.{double}
-use Rattle.chunk.proofs.Places.{Filled, fill-none, fill-more, fill-all}
+use Rattle.base.proofs.Fill.{Filled, fill-none, fill-more, fill-all}
 use Rattle.chunk.proofs.double.Statement.{statement}
 use Rattle.chunk.proofs.double.Tie as tie
 
 abbrev Inv-loop : tie.InvT-loop
-Inv-loop x₀ j₀ x j = (j ≤ 64) × Filled (λ j v. double v) x₀ x j
+Inv-loop x₀ j₀ x j = (j ≤ 64) × Filled (λ j v. double v) 64 x₀ x j
 
 abbrev μ-loop : tie.MeasureT-loop
 μ-loop x₀ j₀ x j = 64 - j

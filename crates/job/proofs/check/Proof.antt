@@ -5,12 +5,12 @@ use Prim.Native.Nat.{_≤_}
 use native.Mathlib.Omega.{arith}
 use borrow.Author.Needs.{needs}
 use lib.ListN.{length, length-take}
-use Rattle.stripe.proofs.Refused.{shape-whole}
+use Rattle.shape.proofs.Refused.{well-shaped}
 use Rattle.job.proofs.check.Statement.{statement}
 use Rattle.job.proofs.check.Tie as tie
 
 block : (c : tie.Start) → c .args .g .b ≤ 4096
-block c = shape-whole (c .args .g) (length (c .args .stripe .now)) (c .pre .0) (c .args .stripe .now) refl .block
+block c = well-shaped (c .args .g) (c .args .stripe .now) (c .pre .0) .block
 
 array-borrow-prefix-room : tie.Need-array-borrow-prefix-room
 array-borrow-prefix-room c = block (c .before .before)

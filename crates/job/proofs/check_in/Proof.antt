@@ -8,26 +8,27 @@ use borrow.Author.Needs.{needs}
 use borrow.Author.Tests.{eq-eqb}
 use lib.ListN.{length, take}
 use Rattle.stripe.specs.declared.Checked.the-variants.{Summary}
-use Rattle.stripe.specs.Calls.{answered, afterCheck}
-use Rattle.stripe.specs.Refusals.{refusal7, checkRefusal}
+use Rattle.stripe.specs.Calls.{checkedOf, afterCheck}
+use Rattle.shape.specs.Refusals.{library, shapeRefusals, refusal7, checkRefusal}
 use Rattle.stripe.specs.Stripe.{verdicts, summary}
-use Rattle.stripe.proofs.Refused.{shape-passed, left-done}
+use Rattle.base.proofs.Refused.{first-passed, left-done}
 use Rattle.job.specs.Fields.{bigEndian, fields}
 use Rattle.job.proofs.Fielded.{set-two}
-use Rattle.job.proofs.Parts.{put-tail}
+use Rattle.job.proofs.Tails.{put-tail}
 use Rattle.job.proofs.check_in.Statement.{statement}
 use Rattle.job.proofs.check_in.Tie as tie
 
 -- refusals 1 to 3 do not apply, and the room has B places
-accepted : (c : tie.After-slice-known3) → checkRefusal (c .before .before .before .before .before .before .before .args .g) (length (c .before .before .before .before .before .before .before .args .stripe .now)) (length (c .before .before .before .before .before .before .before .args .room .now)) ≡ 0
+accepted : (c : tie.After-slice-known3) → let a = c .before .before .before .before .before .before .before .args in checkRefusal (a .g) (length (a .stripe .now)) (length (a .room .now)) ≡ 0
 accepted c =
-    let a = c .before .before .before .before .before .before .before .args in
-    shape-passed (a .g) (length (a .stripe .now)) (c .before .before .before .before .before .before .before .pre .0) (refusal7 (a .g) (length (a .room .now)) ∷ []) ∙ simp (eq-eqb _ _ (c .before .before .before .before .before .before .before .pre .1))
+    let s = c .before .before .before .before .before .before .before in
+    let a = s .args in
+    first-passed (shapeRefusals library (a .g) (length (a .stripe .now))) (refusal7 (a .g) (length (a .room .now)) ∷ []) refl (s .pre .0) ∙ simp (eq-eqb _ _ (s .pre .1))
 
 done : (c : tie.After-slice-known3) → c .before .before .check .result ≡ Summary (summary (verdicts (c .before .before .before .before .before .before .before .args .g) (c .before .before .before .before .before .before .before .args .stripe .now)))
 done c =
     let a = c .before .before .before .before .before .before .before .args in
-    c .before .before .check .ensures .result ∙ ap (λ (k : ℕ). answered k (summary (verdicts (a .g) (a .stripe .now)))) (accepted c)
+    c .before .before .check .ensures .result ∙ ap (λ (k : ℕ). checkedOf k (summary (verdicts (a .g) (a .stripe .now)))) (accepted c)
 
 left : (c : tie.After-slice-known3) → c .before .before .check .last .1 .1 .0 ≡ verdicts (c .before .before .before .before .before .before .before .args .g) (c .before .before .before .before .before .before .before .args .stripe .now)
 unfolding afterCheck

@@ -4,7 +4,7 @@ use mathlib.Core.Path.{_≡_, sym, _∙_}
 use mathlib.Core.List.{List, [], _∷_}
 use borrow.Author.Needs.{needs}
 use borrow.Author.Tests.{eq-eqb, ne-eqb, lt-ltb, le-ltb}
-use Rattle.stripe.specs.Refusals.{Refusal, firstOf}
+use Rattle.base.specs.Refusal.{Refusal, firstOf}
 use Rattle.job.specs.Header.{commandOf}
 use Rattle.job.specs.Refusals.{refusal16, refusal17, refusal18, refusal19}
 use Rattle.job.proofs.header_refusal.Statement.{statement}

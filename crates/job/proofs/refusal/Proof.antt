@@ -1,22 +1,47 @@
--- `job::refusal` meets its contract: the three stretches of the order, one after the other.
+-- `job::refusal` meets its contract: the steps of the order, one after the other.
 -- Assumes nothing.
-use mathlib.Core.Path.{_≡_, refl, sym, _∙_}
-use mathlib.Core.List.{_++_}
-use Prim.Native.Nat.{_-_, _≤_}
-use native.Mathlib.Omega.{arith}
 use borrow.Author.Needs.{needs}
-use lib.ListN.{length}
-use Rattle.stripe.specs.Refusals.{firstOf}
-use Rattle.stripe.proofs.Refused.{first-kept}
+use mathlib.Core.Path.{_≡_, refl, sym, ap, ap₂, _∙_}
+use mathlib.Core.List.{_++_}
+use Prim.Native.Nat.{ℕ, _+_, _≤_, _<_}
+use native.Mathlib.Nat.{mul-le-mul}
+use native.Mathlib.Omega.{arith}
+use borrow.Author.Tests.{lt-ltb, le-ltb}
+use lib.ListN.{length, length-drop}
+use Rattle.base.specs.Refusal.{firstOf}
+use Rattle.base.proofs.Refused.{first-passed, refused-first, refused-then}
+use Rattle.shape.specs.declared.Geometry.{Geometry}
+use Rattle.shape.specs.declared.Limits.{Limits}
+use Rattle.shape.specs.Layout.{size}
+use Rattle.shape.specs.Refusals.{library, limitsRefusals}
+use Rattle.shape.proofs.Refused.{Within, within-limits}
+use Rattle.job.specs.Header.{geometryOf}
 use Rattle.job.specs.Refusals.{jobRefusal}
-use Rattle.job.specs.Parts.{headerRefusals}
-use Rattle.job.proofs.Order.{first-passed, shapeOf, devicesOf, shape-of, header-long, shape-disks}
+use Rattle.job.specs.Steps.{headerRefusals}
+use Rattle.job.proofs.Order.{limitsOf, restOf, from20, behindHeader, header-long, call-as}
 use Rattle.job.proofs.refusal.Statement.{statement}
 use Rattle.job.proofs.refusal.Tie as tie
 
--- the header is whole where none of its refusals applied
+-- the header is whole where none of its refusals applied, and what follows it decides
 long : (c : tie.Else1) → 14 ≤ length (c .before .before .before .args .job .now)
 long c = header-long (c .before .before .before .args .job .now) (sym (c .before .header-refusal .ensures) ∙ c .if1 .left)
+
+behind : (c : tie.Else1) {k : ℕ} → let job = c .before .before .before .args .job .now in k ≡ firstOf (behindHeader job) → k ≡ firstOf (headerRefusals job ++ behindHeader job)
+behind c e =
+    let job = c .before .before .before .args .job .now in
+    refused-then (headerRefusals job) (behindHeader job) (c .before .header-refusal .ensures) refl (c .if1 .left) e
+
+-- what 1 and 2 gave
+limits : (c : tie.After-limits-refusal) → c .limits-refusal .result ≡ firstOf (limitsOf (c .before .before .before .before .before .before .args .job .now))
+limits c =
+    c .limits-refusal .ensures
+    ∙ ap₂ (λ (l : Limits) (g : Geometry). firstOf (limitsRefusals l g)) (c .before .library-limits .ensures) (c .before .before .geometry .ensures)
+
+inside : (c : tie.Else2) → Within library (c .before .before .before .geometry .result)
+inside c =
+    let g = c .before .before .before .geometry .result in
+    within-limits library g
+    (sym (c .before .limits-refusal .ensures ∙ ap (λ (l : Limits). firstOf (limitsRefusals l g)) (c .before .before .library-limits .ensures)) ∙ c .if2 .left)
 
 header-refusal-requires : tie.Need-header-refusal-requires
 header-refusal-requires c κs = search needs
@@ -25,49 +50,59 @@ returns : tie.Need-returns
 unfolding jobRefusal
 returns c =
     let job = c .before .before .before .args .job .now in
-    let refused = c .before .header-refusal .ensures in
-    refused ∙ sym (first-kept (headerRefusals job) (shapeOf job ++ devicesOf job) (λ e. c .if1 .taken (refused ∙ e)))
+    refused-first (headerRefusals job) (behindHeader job) (c .before .header-refusal .ensures) (c .if1 .taken)
 
 geometry-requires : tie.Need-geometry-requires
 geometry-requires c κs = long c
 
-sub-shape-refusal : tie.Need-sub-shape-refusal
-sub-shape-refusal c = long (c .before)
+library-limits-requires : tie.Need-library-limits-requires
+library-limits-requires c κs = search needs
 
-shape-refusal-requires : tie.Need-shape-refusal-requires
-shape-refusal-requires c κs = search needs
+limits-refusal-requires : tie.Need-limits-refusal-requires
+limits-refusal-requires c κs = search needs
 
 returns-2 : tie.Need-returns-2
 unfolding jobRefusal
-returns-2 c =
-    let job = c .before .before .before .before .before .before .args .job .now in
-    let shape = c .before .shape-refusal .ensures ∙ shape-of job (c .before .before .geometry .result) (c .before .before .geometry .ensures) in
-    shape
-    ∙ sym (first-passed (headerRefusals job) (shapeOf job ++ devicesOf job) refl (sym (c .before .before .before .before .header-refusal .ensures) ∙ c .before .before .before .if1 .left)
-    ∙ first-kept (shapeOf job) (devicesOf job) (λ e. c .if2 .taken (shape ∙ e)))
+returns-2 c = behind (c .before .before .before .before) (refused-first (limitsOf (c .before .before .before .before .before .before .before .args .job .now)) (from20 (c .before .before .before .before .before .before .before .args .job .now)) (limits (c .before)) (c .if2 .taken))
 
-shared-slice-read-device-refusal : tie.Need-shared-slice-read-device-refusal
-shared-slice-read-device-refusal c = omega (arith, long (c .before .before .before .before))
+add-if3 : tie.Need-add-if3
+add-if3 c = let within = inside (c .before) in omega arith
 
-field-requires : tie.Need-field-requires
-field-requires c κs = omega (arith, long (c .before .before .before .before))
-
-field-requires-2 : tie.Need-field-requires-2
-field-requires-2 c κs = omega (arith, long (c .before .before .before .before .before))
-
-device-refusal-requires : tie.Need-device-refusal-requires
-device-refusal-requires c κs = shape-disks (c .before .before .before .before .before .geometry .result) (length (c .before .before .before .before .before .before .before .before .before .args .job .now) - 14) (sym (c .before .before .before .before .shape-refusal .ensures) ∙ c .before .before .before .if2 .left)
+mul-if3 : tie.Need-mul-if3
+mul-if3 c =
+    let within = inside (c .before .before) in
+    let g = c .before .before .before .before .before .geometry .result in
+    omega (arith, mul-le-mul {n₁ = g .n + 2} {m₁ = g .b} {n₂ = 257} {m₂ = 4096} (omega arith) (omega arith))
 
 returns-3 : tie.Need-returns-3
 unfolding jobRefusal
 returns-3 c =
     let job = c .before .before .before .before .before .before .before .before .before .before .args .job .now in
-    let g = c .before .before .before .before .before .before .geometry in
-    let shape = c .before .before .before .before .before .shape-refusal .ensures ∙ shape-of job (g .result) (g .ensures) in
-    let devices : c .device-refusal .result ≡ firstOf (devicesOf job) = cc in
-    devices
-    ∙ sym (first-passed (headerRefusals job) (shapeOf job ++ devicesOf job) refl (sym (c .before .before .before .before .before .before .before .before .header-refusal .ensures) ∙ c .before .before .before .before .before .before .before .if1 .left)
-    ∙ first-passed (shapeOf job) (devicesOf job) refl (sym shape ∙ c .before .before .before .before .if2 .left))
+    let large = ap size (c .before .before .before .before .before .before .geometry .ensures) in
+    behind (c .before .before .before .before .before .before .before) (refused-then (limitsOf job) (from20 job) (limits (c .before .before .before .before)) refl (c .before .before .before .if2 .left) (simp (lt-ltb 61440 (size (geometryOf job)) (omega arith))))
+
+sub-call-refusal : tie.Need-sub-call-refusal
+sub-call-refusal c = long (c .before .before .before .before .before .before .before)
+
+shared-slice-read-call-refusal : tie.Need-shared-slice-read-call-refusal
+shared-slice-read-call-refusal c = omega (arith, long (c .before .before .before .before .before .before .before .before))
+
+field-requires : tie.Need-field-requires
+field-requires c κs = omega (arith, long (c .before .before .before .before .before .before .before .before))
+
+field-requires-2 : tie.Need-field-requires-2
+field-requires-2 c κs = omega (arith, long (c .before .before .before .before .before .before .before .before .before))
+
+call-refusal-requires : tie.Need-call-refusal-requires
+call-refusal-requires c κs = search needs
+
+returns-4 : tie.Need-returns-4
+unfolding jobRefusal
+returns-4 c =
+    let job = c .before .before .before .before .before .before .before .before .before .before .before .before .before .before .args .job .now in
+    let small = ap size (c .before .before .before .before .before .before .before .before .before .before .geometry .ensures) in
+    let call = c .call-refusal .ensures ∙ call-as job (c .before .before .before .before .before .before .before .before .before .before .geometry .ensures) (sym (length-drop 14 job)) (c .before .before .field .ensures .value) (c .before .field2 .ensures .value) in
+    behind (c .before .before .before .before .before .before .before .before .before .before .before) (refused-then (limitsOf job) (from20 job) (limits (c .before .before .before .before .before .before .before .before)) refl (c .before .before .before .before .before .before .before .if2 .left) (call ∙ first-passed (limitsOf job) (restOf job) refl (sym (limits (c .before .before .before .before .before .before .before .before)) ∙ c .before .before .before .before .before .before .before .if2 .left) ∙ sym (simp (le-ltb 61440 (size (geometryOf job)) (omega arith)))))
 
 pub refusal-spec : {M : Type 1} → statement M
 refusal-spec =
@@ -76,11 +111,15 @@ refusal-spec =
     header-refusal-requires
     returns
     geometry-requires
-    sub-shape-refusal
-    shape-refusal-requires
+    library-limits-requires
+    limits-refusal-requires
     returns-2
-    shared-slice-read-device-refusal
+    add-if3
+    mul-if3
+    returns-3
+    sub-call-refusal
+    shared-slice-read-call-refusal
     field-requires
     field-requires-2
-    device-refusal-requires
-    returns-3)
+    call-refusal-requires
+    returns-4)

@@ -6,16 +6,16 @@ use Prim.Native.Nat.{ℕ, _+_, _*_}
 use native.Mathlib.Omega.{arith}
 use borrow.Author.Needs.{needs}
 use lib.ListN.{length, take, drop}
-use Rattle.stripe.specs.declared.Geometry.{Geometry}
-use Rattle.stripe.specs.Calls.{afterEncode}
-use Rattle.stripe.specs.Codes.{namingOf, rebuiltBy}
-use Rattle.stripe.specs.Refusals.{encodeRefusal}
+use Rattle.shape.specs.declared.Geometry.{Geometry}
+use Rattle.stripe.specs.Calls.{afterEncode, rebuiltBy}
+use Rattle.shape.specs.Codes.{namingOf}
+use Rattle.shape.specs.Refusals.{encodeRefusal}
 use Rattle.stripe.specs.Stripe.{verdicts}
 use Rattle.job.specs.Header.{geometryOf, stripeOf}
 use Rattle.job.specs.Answer.{report}
 use Rattle.job.proofs.Accepted.{Accepted, accepted}
 use Rattle.job.proofs.Bodies.{body-check, length-check, length-stripe, other, encode-done, rebuild-done}
-use Rattle.job.proofs.Parts.{tail, filled}
+use Rattle.job.proofs.Tails.{tail, filled}
 use Rattle.job.proofs.run.Statement.{statement}
 use Rattle.job.proofs.run.Tie as tie
 

@@ -8,9 +8,9 @@ use lib.ListN.{getD}
 use Rattle.chunk.proofs.Laws.{each-at}
 use Rattle.gf256.specs.Field.{sum}
 use Rattle.gf256.proofs.Laws.{sum-comm, zero-sum}
-use Rattle.stripe.proofs.Put.{put-same, put-other}
-use Rattle.stripe.specs.Column.{put}
-use Rattle.stripe.specs.Stripe.{column}
+use Rattle.column.proofs.Put.{put-same, put-other}
+use Rattle.column.specs.Column.{put}
+use Rattle.shape.specs.Layout.{column}
 use Rattle.stripe.proofs.add_stored.Statement.{statement}
 use Rattle.stripe.proofs.add_stored.Tie as tie
 

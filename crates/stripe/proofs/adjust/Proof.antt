@@ -9,14 +9,15 @@ use native.Mathlib.Omega.{arith}
 use borrow.Author.Needs.{needs}
 use lib.ListN.{length, getD, drop}
 use lib.Seq.{getD-take, getD-drop}
-use Rattle.stripe.proofs.Passed.{sweep-chunk}
+use Rattle.stripe.proofs.ChunkMapped.{mapped-chunk}
 use Rattle.stripe.proofs.Stretch.{covered, before-stretch, after-stretch}
-use Rattle.stripe.proofs.Sweep.{Swept, sweep-from, sweep-pair, sweep-upto}
-use Rattle.stripe.specs.Choice.{choose}
-use Rattle.stripe.specs.Column.{Column, put, reedSolomon, adjustColumn}
-use Rattle.stripe.specs.Parts.{Sound}
-use Rattle.stripe.specs.Stripe.{column, covers}
-use Rattle.stripe.specs.declared.Geometry.{Geometry}
+use Rattle.stripe.proofs.MappedBelow.{MappedBelow, mapped-from, mapped-pair, mapped-upto}
+use Rattle.base.specs.Choice.{choose}
+use Rattle.column.specs.Column.{Column, put, reedSolomon, adjustColumn}
+use Rattle.stripe.specs.Engine.{HasColumn}
+use Rattle.shape.specs.Layout.{column}
+use Rattle.stripe.specs.Stripe.{covers}
+use Rattle.shape.specs.declared.Geometry.{Geometry}
 use Rattle.stripe.proofs.adjust.Statement.{statement}
 use Rattle.stripe.proofs.adjust.Tie as tie
 
@@ -31,7 +32,7 @@ rule-at g disk offset new i j c e h =
     (ap (λ (k : ℕ). adjustColumn reedSolomon (g .n) disk (getD new k 0) c) (omega arith))
 
 abbrev Inv-loop : tie.InvT-loop
-Inv-loop g stripe₀ disk offset new c j₀ stripe j = (j ≤ length new) × Swept g (rule g disk offset new) stripe₀ stripe (offset + j)
+Inv-loop g stripe₀ disk offset new c j₀ stripe j = (j ≤ length new) × MappedBelow g (rule g disk offset new) stripe₀ stripe (offset + j)
 
 abbrev μ-loop : tie.MeasureT-loop
 μ-loop g stripe₀ disk offset new c j₀ stripe j = length new - j
@@ -39,7 +40,7 @@ abbrev μ-loop : tie.MeasureT-loop
 abbrev Inv-loop2 : tie.InvT-loop2
 Inv-loop2 g stripe₀ disk offset new c j₀ stripe j =
     (j ≤ length new)
-    × ((s : List ℕ) → Swept g (rule g disk offset new) s stripe₀ (offset + j₀) → Swept g (rule g disk offset new) s stripe (offset + j))
+    × ((s : List ℕ) → MappedBelow g (rule g disk offset new) s stripe₀ (offset + j₀) → MappedBelow g (rule g disk offset new) s stripe (offset + j))
 
 abbrev μ-loop2 : tie.MeasureT-loop2
 μ-loop2 g stripe₀ disk offset new c j₀ stripe j = length new - j
@@ -52,7 +53,7 @@ loop-holds c =
     let a = c .before .before .before .args in
     let f = rule (a .g) (a .disk) (a .offset) (a .new .now) in (
       omega arith,
-      sweep-from (a .g) f (a .stripe .now) (a .offset + 0)
+      mapped-from (a .g) f (a .stripe .now) (a .offset + 0)
           (λ i p. rw (before-stretch (a .offset) (length (a .new .now)) i (omega arith))),
     )
 
@@ -93,7 +94,7 @@ loop-again c =
     let new = a .new .now in
     let k = a .offset + at .j in (
       omega arith,
-      sweep-chunk (a .g) (rule (a .g) (a .disk) (a .offset) new) _ k k (a .offset + (at .j + 64)) (at .inv .1) passed (le-refl k) (omega arith) (omega arith)
+      mapped-chunk (a .g) (rule (a .g) (a .disk) (a .offset) new) _ k k (a .offset + (at .j + 64)) (at .inv .1) passed (le-refl k) (omega arith) (omega arith)
           (λ i p q. omega arith)
           (λ i e p.
           ap (λ (v : ℕ). adjustColumn reedSolomon (a .g .n) (a .disk) v e)
@@ -108,13 +109,13 @@ loop2-holds c = (omega arith, λ s swept. swept)
 -- what both loops together have done, and what the second finds at each turn
 swept-so-far : (c : tie.At-loop2 Inv-loop μ-loop Inv-loop2 μ-loop2) →
     let a = c .before .before .before .before .before .before .args in
-    Swept (a .g) (rule (a .g) (a .disk) (a .offset) (a .new .now)) (a .stripe .now) (c .loop2 .stripe) (a .offset + c .loop2 .j)
+    MappedBelow (a .g) (rule (a .g) (a .disk) (a .offset) (a .new .now)) (a .stripe .now) (c .loop2 .stripe) (a .offset + c .loop2 .j)
 swept-so-far c =
     c .loop2 .inv .1 (c .before .before .before .before .before .before .args .stripe .now) (c .before .before .loop .inv .1)
 
 sound : (c : tie.In-loop2 Inv-loop μ-loop Inv-loop2 μ-loop2) →
     let a = c .before .before .before .before .before .before .before .args in
-    Sound (a .g) (c .before .loop2 .stripe) (a .offset + c .before .loop2 .j)
+    HasColumn (a .g) (c .before .loop2 .stripe) (a .offset + c .before .loop2 .j)
 sound c = let swept = swept-so-far (c .before) in search needs
 
 add-i : tie.Need-add-i Inv-loop μ-loop Inv-loop2 μ-loop2
@@ -162,7 +163,7 @@ loop2-again c =
           let e = column g s i in
           let bytes = rw (swept .old i (le-refl i) inside) at (new .ensures) in
           rw (last .store2 .ensures, first .store .ensures, ← add-assoc (a .offset) (at .j) 1)
-          (sweep-pair g f s (at .stripe) i (g .n + 1) (new .result .1) (g .n) (new .result .0) swept inside (sym (begun .kept) ∙ chunks .loop .inv .1 .kept ∙ here .pre .0 .whole) (omega arith) (omega arith)
+          (mapped-pair g f s (at .stripe) i (g .n + 1) (new .result .1) (g .n) (new .result .0) swept inside (sym (begun .kept) ∙ chunks .loop .inv .1 .kept ∙ here .pre .0 .whole) (omega arith) (omega arith)
           (ap₂ (λ (p q : ℕ). put (g .n) p (put (g .n + 1) q e)) (bytes .first) (bytes .second)
           ∙ sym (rule-at g (a .disk) (a .offset) (a .new .now) i (at .j) e (omega arith) (omega arith)))),
     )
@@ -175,7 +176,7 @@ returns c =
     let here = c .before .before .before .before .before .before .before in
     let a = here .args in
     let at = c .before .loop2 in
-    sweep-upto (a .g) (rule (a .g) (a .disk) (a .offset) (a .new .now)) (a .stripe .now) (at .stripe) (a .offset + at .j) (swept-so-far (c .before))
+    mapped-upto (a .g) (rule (a .g) (a .disk) (a .offset) (a .new .now)) (a .stripe .now) (at .stripe) (a .offset + at .j) (swept-so-far (c .before))
     (λ i p q. rw (after-stretch (a .offset) (length (a .new .now)) i (omega arith)))
     (here .pre .0 .some)
     (here .pre .0 .whole)

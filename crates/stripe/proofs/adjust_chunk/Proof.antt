@@ -9,9 +9,9 @@ use borrow.Author.Tests.{lt-ltb}
 use lib.ListN.{getD}
 use Rattle.chunk.proofs.Laws.{each-at}
 use Rattle.gf256.specs.Field.{sum, product}
-use Rattle.stripe.proofs.Passed.{passed-as}
-use Rattle.stripe.specs.Column.{put, reedSolomon}
-use Rattle.stripe.specs.Stripe.{column}
+use Rattle.stripe.proofs.ChunkMapped.{chunk-as}
+use Rattle.column.specs.Column.{put, reedSolomon}
+use Rattle.shape.specs.Layout.{column}
 use Rattle.stripe.proofs.adjust_chunk.Statement.{statement}
 use Rattle.stripe.proofs.adjust_chunk.Tie as tie
 
@@ -62,7 +62,7 @@ returns c =
     let start = of-new .before .before .before .before .before in
     let a = start .args in
     let n = a .g .n in
-    passed-as (a .g) (a .i) (set .set-roles .ensures)
+    chunk-as (a .g) (a .i) (set .set-roles .ensures)
     (λ j h.
     let at : List ℕ → ℕ = λ l. getD l j 0 in
     let e = column (a .g) (a .stripe .now) (a .i + j) in

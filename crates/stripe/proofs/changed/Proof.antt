@@ -4,7 +4,7 @@ use mathlib.Core.Path.{ap, ap₂, _∙_}
 use Prim.Native.Nat.{ℕ}
 use Rattle.gf256.specs.Field.{sum, product}
 use borrow.Author.Needs.{needs}
-use Rattle.stripe.specs.Column.{reedSolomon}
+use Rattle.column.specs.Column.{reedSolomon}
 use Rattle.stripe.proofs.changed.Statement.{statement}
 use Rattle.stripe.proofs.changed.Tie as tie
 

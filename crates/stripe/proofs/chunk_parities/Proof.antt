@@ -11,9 +11,9 @@ use lib.ListN.{getD}
 use Rattle.chunk.proofs.Laws.{each-at}
 use Rattle.gf256.specs.Field.{sum, double, product, power}
 use Rattle.stripe.proofs.Horner.{tailP, tailQ, tail-all, tailP-last, tailQ-last, tailP-more, tailQ-more}
-use Rattle.stripe.specs.Column.{Column, reedSolomon}
-use Rattle.stripe.specs.Parts.{Chunk}
-use Rattle.stripe.specs.Stripe.{column}
+use Rattle.column.specs.Column.{Column, reedSolomon}
+use Rattle.stripe.specs.Engine.{Chunk}
+use Rattle.shape.specs.Layout.{column}
 use Rattle.stripe.proofs.chunk_parities.Statement.{statement}
 use Rattle.stripe.proofs.chunk_parities.Tie as tie
 

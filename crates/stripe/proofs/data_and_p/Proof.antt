@@ -4,10 +4,10 @@ use mathlib.Core.Path.{ap, _∙_}
 use Prim.Native.Nat.{ℕ}
 use borrow.Author.Needs.{needs}
 use Rattle.gf256.specs.Field.{inverse}
-use Rattle.stripe.proofs.Places.{lift-same}
+use Rattle.shape.proofs.Places.{lift-same}
 use Rattle.stripe.proofs.Solved.{solved-data-and-p}
-use Rattle.stripe.specs.Parts.{solved}
-use Rattle.stripe.specs.Stripe.{lift}
+use Rattle.stripe.specs.Engine.{solved}
+use Rattle.shape.specs.Layout.{lift}
 use Rattle.stripe.specs.declared.Rule.the-variants.{Mixed}
 use Rattle.stripe.proofs.data_and_p.Statement.{statement}
 use Rattle.stripe.proofs.data_and_p.Tie as tie

@@ -4,8 +4,8 @@ use mathlib.Core.Path.{ap, _∙_}
 use borrow.Author.Needs.{needs}
 use Rattle.stripe.proofs.Solved.{rebuilt-data-then-q}
 use Rattle.stripe.specs.Stripe.{rebuilt}
-use Rattle.stripe.specs.declared.Device.the-variants.{Q}
-use Rattle.stripe.specs.declared.Lost.the-variants.{One}
+use Rattle.column.specs.declared.Device.the-variants.{Q}
+use Rattle.column.specs.declared.Lost.the-variants.{One}
 use Rattle.stripe.proofs.data_and_q.Statement.{statement}
 use Rattle.stripe.proofs.data_and_q.Tie as tie
 

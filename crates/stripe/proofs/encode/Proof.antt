@@ -1,29 +1,28 @@
--- `stripe::encode` meets its contract: to encode is to recompute P and Q.
+-- `stripe::encode` meets its contract: its refusal, then P and Q are recomputed.
 -- Assumes nothing.
-use mathlib.Core.Path.{refl, sym, _∙_}
 use borrow.Author.Needs.{needs}
-use lib.ListN.{length}
-use Rattle.stripe.proofs.Refused.{shape-whole, left-alone, left-done}
-use Rattle.stripe.specs.Calls.{afterEncode}
-use Rattle.stripe.specs.Refusals.{encodeRefusal}
+use mathlib.Core.Path.{sym, _∙_}
+use Rattle.base.proofs.Refused.{leaves-alone, leaves-done}
+use Rattle.shape.proofs.Refused.{well-shaped}
 use Rattle.stripe.specs.Stripe.{encoded}
+use Rattle.stripe.specs.Calls.{afterEncode}
 use Rattle.stripe.proofs.encode.Statement.{statement}
 use Rattle.stripe.proofs.encode.Tie as tie
 
-refusal-requires : tie.Need-refusal-requires
-refusal-requires c κs = search needs
+encode-refusal-requires : tie.Need-encode-refusal-requires
+encode-refusal-requires c κs = search needs
 
 returns : tie.Need-returns
 unfolding afterEncode
 returns c =
     let a = c .before .before .before .args in
-    let refused = c .before .refusal .ensures in
-    record { result = refused; stripe = sym (left-alone (encodeRefusal (a .g) (length (a .stripe .now))) (encoded (a .g) (a .stripe .now)) (a .stripe .now) (λ e. c .if1 .taken (refused ∙ e))) }
+    let refused = c .before .encode-refusal .ensures in
+    record { result = refused; stripe = leaves-alone (encoded (a .g) (a .stripe .now)) (a .stripe .now) refused (c .if1 .taken) }
 
 restore-two-requires : tie.Need-restore-two-requires
 restore-two-requires c κs =
     let a = c .before .before .before .before .args in
-    (shape-whole (a .g) (length (a .stripe .now)) (sym (c .before .before .refusal .ensures) ∙ c .before .if1 .left) (a .stripe .now) refl, tt, tt)
+    (well-shaped (a .g) (a .stripe .now) (sym (c .before .before .encode-refusal .ensures) ∙ c .before .if1 .left), tt, tt)
 
 same-length : tie.Need-same-length
 same-length c = search needs
@@ -32,12 +31,10 @@ returns-2 : tie.Need-returns-2
 unfolding afterEncode
 returns-2 c =
     let a = c .before .before .before .before .before .before .before .args in
-    let passed = sym (c .before .before .before .before .before .refusal .ensures) ∙ c .before .before .before .before .if1 .left in
-    record {
-      result = sym passed;
-      stripe = c .before .before .restore-two .ensures ∙ sym (left-done (encodeRefusal (a .g) (length (a .stripe .now))) (encoded (a .g) (a .stripe .now)) (a .stripe .now) passed);
-    }
+    let refused = c .before .before .before .before .before .encode-refusal .ensures in
+    let done = c .before .before .before .before .if1 .left in
+    record { result = sym done ∙ refused; stripe = leaves-done (encoded (a .g) (a .stripe .now)) (a .stripe .now) refused done (c .before .before .restore-two .ensures) }
 
 pub encode-spec : {M : Type 1} → statement M
 encode-spec =
-    tie.close (tie.spec refusal-requires returns restore-two-requires same-length returns-2)
+    tie.close (tie.spec encode-refusal-requires returns restore-two-requires same-length returns-2)

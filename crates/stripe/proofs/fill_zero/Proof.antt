@@ -4,18 +4,18 @@ use mathlib.Core.Path.{refl}
 use Prim.Native.Nat.{_-_, _≤_}
 use native.Mathlib.Omega.{arith}
 use lib.ListN.{length}
-use Rattle.stripe.proofs.Filled.{Filled, filled-none, filled-more, filled-all}
+use Rattle.base.proofs.Fill.{Filled, fill-none, fill-more, fill-all}
 use Rattle.stripe.proofs.fill_zero.Statement.{statement}
 use Rattle.stripe.proofs.fill_zero.Tie as tie
 
 abbrev Inv-loop : tie.InvT-loop
-Inv-loop room₀ j₀ room j = (j ≤ length room₀) × Filled (λ j. 0) (length room₀) room j
+Inv-loop room₀ j₀ room j = (j ≤ length room₀) × Filled (λ j v. 0) (length room₀) room₀ room j
 
 abbrev μ-loop : tie.MeasureT-loop
 μ-loop room₀ j₀ room j = length room₀ - j
 
 loop-holds : tie.Need-loop-holds Inv-loop μ-loop
-loop-holds c = (omega arith, filled-none refl)
+loop-holds c = (omega arith, fill-none refl)
 
 mul-room : tie.Need-mul-room Inv-loop μ-loop
 mul-room c = omega arith
@@ -31,13 +31,13 @@ loop-less c = omega arith
 
 loop-again : tie.Need-loop-again Inv-loop μ-loop
 loop-again c =
-    let l = c .before .loop in (omega arith, filled-more (l .inv .1) (omega arith) refl)
+    let l = c .before .loop in (omega arith, fill-more (l .inv .1) (omega arith) refl)
 
 same-length : tie.Need-same-length Inv-loop μ-loop
 same-length c = c .before .loop .inv .1 .long
 
 returns : tie.Need-returns Inv-loop μ-loop
-returns c = filled-all (c .before .loop .inv .1) (omega arith)
+returns c = fill-all (c .before .loop .inv .1) (omega arith)
 
 pub fill-zero-spec : {M : Type 1} → statement M
 fill-zero-spec =

@@ -1,20 +1,26 @@
 -- `stripe::load` meets its contract: the 64 bytes lie within the role's block.
 -- Assumes nothing.
-use mathlib.Core.Path.{ap, _∙_}
+use mathlib.Core.Path.{_≡_, ap, _∙_}
 use mathlib.Core.List.{List}
 use Prim.Native.Nat.{ℕ, _+_, _-_, _≤_}
 use native.Mathlib.Omega.{arith}
 use borrow.Author.Needs.{needs}
 use lib.ListN.{length, getD, drop}
 use lib.Seq.{getD-take, getD-drop}
-use Rattle.stripe.proofs.Inside.{stretch-inside}
+use Rattle.stripe.proofs.Inside.{block-start, stretch-inside}
+use Rattle.shape.specs.Layout.{start}
 use Rattle.stripe.proofs.load.Statement.{statement}
 use Rattle.stripe.proofs.load.Tie as tie
+
+begins : (c : tie.After-start) → c .start .result ≡ start (c .before .before .args .g) (c .before .before .args .role)
+begins c =
+    let here = c .before .before in
+    block-start (here .args .g) (here .args .role) (here .pre .0 .disks) (here .pre .0 .block) (here .pre .2) (c .start .ensures)
 
 inside : (c : tie.After-start) → c .start .result + c .before .before .args .i + 64 ≤ length (c .before .before .args .stripe .now)
 inside c =
     let here = c .before .before in
-    stretch-inside (here .args .g) (here .args .stripe .now) (here .args .role) (here .args .i) 64 (c .start .result) (here .pre .0) (record { known = here .pre .2; fits = here .pre .1 }) (c .start .ensures)
+    stretch-inside (here .args .g) (here .args .stripe .now) (here .args .role) (here .args .i) 64 (c .start .result) (here .pre .0) (record { known = here .pre .2; fits = here .pre .1 }) (begins c)
 
 start-requires : tie.Need-start-requires
 start-requires c κs = search needs
@@ -44,7 +50,7 @@ returns c j p =
     ap (λ (l : List ℕ). getD l j 0) (c .chunk-of .ensures)
     ∙ getD-take (at + 64 - at) (drop at (a .stripe .now)) j 0 (omega arith)
     ∙ getD-drop at (a .stripe .now) j 0
-    ∙ ap (λ (k : ℕ). getD (a .stripe .now) k 0) (omega (arith, c .before .before .start .ensures))
+    ∙ ap (λ (k : ℕ). getD (a .stripe .now) k 0) (omega (arith, begins (c .before .before)))
 
 pub load-spec : {M : Type 1} → statement M
 load-spec =

@@ -7,8 +7,8 @@ use native.Mathlib.Omega.{arith}
 use borrow.Author.Needs.{needs}
 use Rattle.gf256.specs.Field.{sum, double, product, power}
 use Rattle.stripe.proofs.Horner.{tailP, tailQ, tail-none, tail-all, tailP-more, tailQ-more}
-use Rattle.stripe.specs.Column.{Column, put, reedSolomon}
-use Rattle.stripe.specs.Stripe.{column}
+use Rattle.column.specs.Column.{Column, put, reedSolomon}
+use Rattle.shape.specs.Layout.{column}
 use Rattle.stripe.proofs.parities.Statement.{statement}
 use Rattle.stripe.proofs.parities.Tie as tie
 

@@ -1,64 +1,43 @@
--- `stripe::rebuild` meets its contract: the first three refusals, and then by the cases of the loss.
+-- `stripe::rebuild` meets its contract: its refusal, then the lost devices are restored.
 -- Assumes nothing.
-use mathlib.Core.Path.{sym, _∙_}
-use mathlib.Core.List.{[], _∷_}
 use borrow.Author.Needs.{needs}
+use mathlib.Core.Path.{sym, _∙_}
 use lib.ListN.{length}
-use Rattle.stripe.proofs.Refused.{first-kept, rebuild-refused}
-use Rattle.stripe.specs.Refusals.{refusal1, refusal2, refusal3, refusal4, refusal5}
+use Rattle.base.proofs.Refused.{leaves-alone, leaves-done}
+use Rattle.shape.proofs.Refused.{well-shaped, rebuild-accepted}
+use Rattle.stripe.specs.Stripe.{rebuilt}
+use Rattle.stripe.specs.Calls.{afterRebuild}
 use Rattle.stripe.proofs.rebuild.Statement.{statement}
 use Rattle.stripe.proofs.rebuild.Tie as tie
 
-refusal-requires : tie.Need-refusal-requires
-refusal-requires c κs = search needs
+rebuild-refusal-requires : tie.Need-rebuild-refusal-requires
+rebuild-refusal-requires c κs = search needs
 
 returns : tie.Need-returns
+unfolding afterRebuild
 returns c =
     let a = c .before .before .before .args in
-    let refused = c .before .refusal .ensures in
-    rebuild-refused (a .g) (a .lost) (a .stripe .now) (c .before .refusal .result) (c .if1 .taken)
-    (refused
-    ∙ sym
-    (first-kept (refusal1 (a .g) ∷ refusal2 (a .g) ∷ refusal3 (a .g) (length (a .stripe .now)) ∷ []) (refusal4 (a .g) (a .lost) ∷ refusal5 (a .g) (a .lost) ∷ [])
-    (λ e. c .if1 .taken (refused ∙ e))))
+    let refused = c .before .rebuild-refusal .ensures in
+    record { result = refused; stripe = leaves-alone (rebuilt (a .g) (a .lost) (a .stripe .now)) (a .stripe .now) refused (c .if1 .taken) }
 
-enum-known-lost : tie.Need-enum-known-lost
-enum-known-lost c = search needs
-
-rebuild-one-requires : tie.Need-rebuild-one-requires
-rebuild-one-requires c κs =
-    sym (c .before .before .before .before .before .refusal .ensures) ∙ c .before .before .before .before .if1 .left
-
-enum-known-lost-2 : tie.Need-enum-known-lost-2
-enum-known-lost-2 c = search needs
-
-rebuild-two-requires : tie.Need-rebuild-two-requires
-rebuild-two-requires c κs =
-    sym (c .before .before .before .before .before .refusal .ensures) ∙ c .before .before .before .before .if1 .left
+restore-lost-requires : tie.Need-restore-lost-requires
+restore-lost-requires c κs =
+    let a = c .before .before .before .before .args in
+    let accepted = rebuild-accepted (a .g) (length (a .stripe .now)) (a .lost) (sym (c .before .before .rebuild-refusal .ensures) ∙ c .before .if1 .left) in
+    (well-shaped (a .g) (a .stripe .now) (accepted .0), accepted .1)
 
 same-length : tie.Need-same-length
 same-length c = search needs
 
 returns-2 : tie.Need-returns-2
-returns-2 c = rw (c .before .before .before .before .before .lost .given .1) (c .before .before .rebuild-one .ensures)
-
-same-length-2 : tie.Need-same-length-2
-same-length-2 c = search needs
-
-returns-3 : tie.Need-returns-3
-returns-3 c = rw (c .before .before .before .before .before .lost2 .given .1) (c .before .before .rebuild-two .ensures)
+unfolding afterRebuild
+returns-2 c =
+    let a = c .before .before .before .before .before .before .before .args in
+    let refused = c .before .before .before .before .before .rebuild-refusal .ensures in
+    let done = c .before .before .before .before .if1 .left in
+    record { result = sym done ∙ refused; stripe = leaves-done (rebuilt (a .g) (a .lost) (a .stripe .now)) (a .stripe .now) refused done (c .before .before .restore-lost .ensures) }
 
 pub rebuild-spec : {M : Type 1} → statement M
 rebuild-spec =
     tie.close
-    (tie.spec
-    refusal-requires
-    returns
-    enum-known-lost
-    rebuild-one-requires
-    enum-known-lost-2
-    rebuild-two-requires
-    same-length
-    returns-2
-    same-length-2
-    returns-3)
+    (tie.spec rebuild-refusal-requires returns restore-lost-requires same-length returns-2)

@@ -9,12 +9,12 @@ use Rattle.chunk.specs.Chunk.{plus, plusProduct}
 use Rattle.chunk.proofs.Laws.{each-at}
 use Rattle.gf256.specs.Field.{sum, product}
 use Rattle.gf256.proofs.Laws.{zero-sum}
-use Rattle.stripe.proofs.Passed.{passed-then, passed-as}
+use Rattle.stripe.proofs.ChunkMapped.{chunk-then, chunk-as}
 use Rattle.stripe.proofs.Solved.{emptied-over}
-use Rattle.stripe.specs.Column.{reedSolomon, syndromeP, syndromeQ}
-use Rattle.stripe.specs.Parts.{Passed, Fills, putRole, emptied, without, solution, solved}
-use Rattle.stripe.specs.Stripe.{column}
-use Rattle.stripe.specs.declared.Geometry.{Geometry}
+use Rattle.column.specs.Column.{reedSolomon, syndromeP, syndromeQ}
+use Rattle.stripe.specs.Engine.{ChunkMapped, Fills, putRole, emptied, without, solution, solved}
+use Rattle.shape.specs.Layout.{column}
+use Rattle.shape.specs.declared.Geometry.{Geometry}
 use Rattle.stripe.specs.declared.Rule.{Rule}
 use Rattle.stripe.specs.declared.Rule.the-variants.{Mixed}
 use Rattle.stripe.proofs.restore_chunk.Statement.{statement}
@@ -22,13 +22,13 @@ use Rattle.stripe.proofs.restore_chunk.Tie as tie
 
 -- lost data emptied, and then the lost roles filled
 filled : (g : Geometry) (i x y : ℕ) (rule : Rule) {s t u : List ℕ} (first second : List ℕ)
-    → Passed g i (λ j c. emptied (g .n) x (emptied (g .n) y c)) s t
-    → Passed g i (λ j c. putRole (g .n) x (getD first j 0) (putRole (g .n) y (getD second j 0) c)) t u
+    → ChunkMapped g i (λ j c. emptied (g .n) x (emptied (g .n) y c)) s t
+    → ChunkMapped g i (λ j c. putRole (g .n) x (getD first j 0) (putRole (g .n) y (getD second j 0) c)) t u
     → ((j : ℕ) → j < 64 → Fills (solution rule (syndromeP (g .n) (without x y (column g s (i + j)))) (syndromeQ reedSolomon (g .n) (without x y (column g s (i + j))))) (getD first j 0) (getD second j 0))
-    → Passed g i (λ j c. solved (g .n) x y rule c) s u
+    → ChunkMapped g i (λ j c. solved (g .n) x y rule c) s u
 unfolding solved
 filled g i x y rule {s} first second empty full fills =
-    passed-as g i (passed-then g i empty full)
+    chunk-as g i (chunk-then g i empty full)
     (λ j p.
     emptied-over (g .n) x y (getD first j 0) (getD second j 0) (column g s (i + j))
     ∙ ap₂ (λ (v w : ℕ). putRole (g .n) x v (putRole (g .n) y w (column g s (i + j)))) (fills j p .first) (fills j p .second))

@@ -5,12 +5,12 @@ use mathlib.Core.Logic.{⊎-elim}
 use Prim.Native.Nat.{ℕ, _+_, _-_, _≤_, _<_}
 use native.Mathlib.Omega.{arith}
 use borrow.Author.Needs.{needs}
-use Rattle.stripe.proofs.Passed.{sweep-chunk}
+use Rattle.stripe.proofs.ChunkMapped.{mapped-chunk}
 use Rattle.stripe.proofs.Solved.{solved-again}
-use Rattle.stripe.proofs.Sweep.{Swept, sweep-none, sweep-all}
-use Rattle.stripe.specs.Column.{Column}
-use Rattle.stripe.specs.Parts.{solved}
-use Rattle.stripe.specs.declared.Geometry.{Geometry}
+use Rattle.stripe.proofs.MappedBelow.{MappedBelow, mapped-none, mapped-all}
+use Rattle.column.specs.Column.{Column}
+use Rattle.stripe.specs.Engine.{solved}
+use Rattle.shape.specs.declared.Geometry.{Geometry}
 use Rattle.stripe.specs.declared.Rule.{Rule}
 use Rattle.stripe.proofs.restore_chunks.Statement.{statement}
 use Rattle.stripe.proofs.restore_chunks.Tie as tie
@@ -19,13 +19,13 @@ abbrev rule-of : Geometry → ℕ → ℕ → Rule → ℕ → Column → Column
 rule-of g x y rule i c = solved (g .n) x y rule c
 
 abbrev Inv-loop : tie.InvT-loop
-Inv-loop g stripe₀ x y rule i₀ stripe i = Swept g (rule-of g x y rule) stripe₀ stripe i
+Inv-loop g stripe₀ x y rule i₀ stripe i = MappedBelow g (rule-of g x y rule) stripe₀ stripe i
 
 abbrev μ-loop : tie.MeasureT-loop
 μ-loop g stripe₀ x y rule i₀ stripe i = g .b - i
 
 loop-holds : tie.Need-loop-holds Inv-loop μ-loop
-loop-holds c = let a = c .before .args in sweep-none (a .g) (rule-of (a .g) (a .x) (a .y) (a .rule)) (a .stripe .now)
+loop-holds c = let a = c .before .args in mapped-none (a .g) (rule-of (a .g) (a .x) (a .y) (a .rule)) (a .stripe .now)
 
 sub-if2 : tie.Need-sub-if2 Inv-loop μ-loop
 sub-if2 c = omega (arith, c .before .before .before .before .before .pre .1)
@@ -61,7 +61,7 @@ loop-again c =
     let a = c .before .before .before .before .before .before .before .before .before .before .args in
     let at = c .before .before .before .before .before .before .before .before .loop in
     let place = where-at (c .before .before .before .before) in
-    sweep-chunk (a .g) (rule-of (a .g) (a .x) (a .y) (a .rule)) (rule-of (a .g) (a .x) (a .y) (a .rule)) (c .before .before .before .before .if2 .at) (at .i) (at .i + 64) (at .inv) (c .before .before .restore-chunk .ensures) (place .1) (omega arith) (omega arith) (place .2) (λ j e p. refl)
+    mapped-chunk (a .g) (rule-of (a .g) (a .x) (a .y) (a .rule)) (rule-of (a .g) (a .x) (a .y) (a .rule)) (c .before .before .before .before .if2 .at) (at .i) (at .i + 64) (at .inv) (c .before .before .restore-chunk .ensures) (place .1) (omega arith) (omega arith) (place .2) (λ j e p. refl)
     (λ k e p q. solved-again (a .g .n) (a .x) (a .y) (a .rule) e)
 
 same-length : tie.Need-same-length Inv-loop μ-loop
@@ -71,7 +71,7 @@ returns : tie.Need-returns Inv-loop μ-loop
 returns c =
     let here = c .before .before .before .before in
     let at = c .before .before .loop in
-    sweep-all (here .args .g) (rule-of (here .args .g) (here .args .x) (here .args .y) (here .args .rule)) (here .args .stripe .now) (at .stripe) (at .i) (at .inv) (c .if1 .left) (here .pre .0 .some) (here .pre .0 .whole)
+    mapped-all (here .args .g) (rule-of (here .args .g) (here .args .x) (here .args .y) (here .args .rule)) (here .args .stripe .now) (at .stripe) (at .i) (at .inv) (c .if1 .left) (here .pre .0 .some) (here .pre .0 .whole)
 
 pub restore-chunks-spec : {M : Type 1} → statement M
 restore-chunks-spec =

@@ -7,11 +7,11 @@ use native.Mathlib.Nat.{le-refl}
 use native.Mathlib.Omega.{arith}
 use lib.Dec.{ltb}
 use lib.ListN.{length}
-use Rattle.stripe.proofs.Sweep.{Swept, length-role, sweep-none, sweep-roles, sweep-all}
-use Rattle.stripe.specs.Column.{Column, TwoBytes, reedSolomon, syndromeP, syndromeQ}
-use Rattle.stripe.specs.Parts.{putRole, without, solution, solved}
-use Rattle.stripe.specs.Stripe.{start, column}
-use Rattle.stripe.specs.declared.Geometry.{Geometry}
+use Rattle.stripe.proofs.MappedBelow.{MappedBelow, length-role, mapped-none, mapped-roles, mapped-all}
+use Rattle.column.specs.Column.{Column, TwoBytes, reedSolomon, syndromeP, syndromeQ}
+use Rattle.stripe.specs.Engine.{putRole, without, solution, solved}
+use Rattle.shape.specs.Layout.{start, column}
+use Rattle.shape.specs.declared.Geometry.{Geometry}
 use Rattle.stripe.specs.declared.Rule.{Rule}
 use Rattle.stripe.proofs.restore_columns.Statement.{statement}
 use Rattle.stripe.proofs.restore_columns.Tie as tie
@@ -20,14 +20,14 @@ abbrev rule-of : Geometry → ℕ → ℕ → Rule → ℕ → Column → Column
 rule-of g x y rule i c = solved (g .n) x y rule c
 
 abbrev Inv-loop : tie.InvT-loop
-Inv-loop g stripe₀ x y rule i₀ stripe i = (i ≤ g .b) × Swept g (rule-of g x y rule) stripe₀ stripe i
+Inv-loop g stripe₀ x y rule i₀ stripe i = (i ≤ g .b) × MappedBelow g (rule-of g x y rule) stripe₀ stripe i
 
 abbrev μ-loop : tie.MeasureT-loop
 μ-loop g stripe₀ x y rule i₀ stripe i = g .b - i
 
 loop-holds : tie.Need-loop-holds Inv-loop μ-loop
 loop-holds c =
-    let a = c .before .args in (omega arith, sweep-none (a .g) (rule-of (a .g) (a .x) (a .y) (a .rule)) (a .stripe .now))
+    let a = c .before .args in (omega arith, mapped-none (a .g) (rule-of (a .g) (a .x) (a .y) (a .rule)) (a .stripe .now))
 
 solve-requires : tie.Need-solve-requires Inv-loop μ-loop
 solve-requires c κs =
@@ -70,8 +70,8 @@ loop-again c =
     let old = at .inv .1 .old (at .i) (le-refl (at .i)) inside in
     let bytes : Column → TwoBytes = λ e. solution (a .rule) (syndromeP (g .n) (without (a .x) (a .y) e)) (syndromeQ reedSolomon (g .n) (without (a .x) (a .y) e)) in (
       omega arith,
-      subst (λ (l : List ℕ). Swept g f s l (at .i + 1)) (sym (c .before .before .store-role2 .ensures))
-          (sweep-roles g f s (at .stripe) (at .i) (a .y) (new .result .1) (a .x) (new .result .0) (at .inv .1) inside (here .pre .whole)
+      subst (λ (l : List ℕ). MappedBelow g f s l (at .i + 1)) (sym (c .before .before .store-role2 .ensures))
+          (mapped-roles g f s (at .stripe) (at .i) (a .y) (new .result .1) (a .x) (new .result .0) (at .inv .1) inside (here .pre .whole)
           (ap₂ (λ (v w : ℕ). putRole (g .n) (a .x) v (putRole (g .n) (a .y) w (column g s (at .i)))) (new .ensures .first ∙ ap (λ (e : Column). bytes e .first) old) (new .ensures .second ∙ ap (λ (e : Column). bytes e .second) old))
           (c .before .before .before .before .before .before .store-role .last .1 .0)
           (c .before .before .before .before .before .before .store-role .ensures)),
@@ -84,7 +84,7 @@ returns : tie.Need-returns Inv-loop μ-loop
 returns c =
     let here = c .before .before .before .before in
     let at = c .before .before .loop in
-    sweep-all (here .args .g) (rule-of (here .args .g) (here .args .x) (here .args .y) (here .args .rule)) (here .args .stripe .now) (at .stripe) (at .i) (at .inv .1) (c .if1 .left) (here .pre .some) (here .pre .whole)
+    mapped-all (here .args .g) (rule-of (here .args .g) (here .args .x) (here .args .y) (here .args .rule)) (here .args .stripe .now) (at .stripe) (at .i) (at .inv .1) (c .if1 .left) (here .pre .some) (here .pre .whole)
 
 pub restore-columns-spec : {M : Type 1} → statement M
 restore-columns-spec =

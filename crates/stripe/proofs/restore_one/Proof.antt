@@ -2,7 +2,7 @@
 -- Assumes nothing.
 use mathlib.Core.Path.{_∙_}
 use borrow.Author.Needs.{needs}
-use Rattle.stripe.proofs.Places.{lift-same}
+use Rattle.shape.proofs.Places.{lift-same}
 use Rattle.stripe.proofs.Solved.{solved-data, solved-p, solved-q}
 use Rattle.stripe.proofs.restore_one.Statement.{statement}
 use Rattle.stripe.proofs.restore_one.Tie as tie

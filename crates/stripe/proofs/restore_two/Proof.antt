@@ -2,7 +2,7 @@
 -- Assumes nothing.
 use mathlib.Core.Path.{sym, _∙_}
 use borrow.Author.Needs.{needs}
-use Rattle.stripe.proofs.Places.{lift-same}
+use Rattle.shape.proofs.Places.{lift-same}
 use Rattle.stripe.proofs.Solved.{solved-p-and-q, p-and-data, q-and-data, q-and-p, p-and-p, q-and-q}
 use Rattle.stripe.proofs.restore_two.Statement.{statement}
 use Rattle.stripe.proofs.restore_two.Tie as tie

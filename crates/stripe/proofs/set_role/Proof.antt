@@ -7,8 +7,8 @@ use native.Mathlib.Omega.{arith}
 use borrow.Author.Needs.{needs}
 use borrow.Author.Tests.{lt-ltb, le-ltb}
 use lib.ListN.{getD}
-use Rattle.stripe.proofs.Passed.{passed-none, passed-as, passed-set}
-use Rattle.stripe.specs.Parts.{Passed, putRole}
+use Rattle.stripe.proofs.ChunkMapped.{chunk-none, chunk-as, chunk-set}
+use Rattle.stripe.specs.Engine.{ChunkMapped, putRole}
 use Rattle.stripe.proofs.set_role.Statement.{statement}
 use Rattle.stripe.proofs.set_role.Tie as tie
 
@@ -29,14 +29,14 @@ returns c =
     let here = c .before .before .before .before .before .before .before .before in
     let a = here .args in
     let known = c .before .before .before .before .before .if1 .taken in
-    subst (λ (t : List ℕ). Passed (a .g) (a .i) (λ j e. putRole (a .g .n) (a .role) (getD (a .t5) j 0) e) (a .stripe .now) t) (sym (c .before .before .set-stretch .ensures))
-    (passed-as (a .g) (a .i) (passed-set (a .g) (a .i) (a .stripe .now) (a .role) (a .t5) (here .pre .0) (record { known = known; fits = omega (arith, here .pre .1) }) (search needs))
+    subst (λ (t : List ℕ). ChunkMapped (a .g) (a .i) (λ j e. putRole (a .g .n) (a .role) (getD (a .t5) j 0) e) (a .stripe .now) t) (sym (c .before .before .set-stretch .ensures))
+    (chunk-as (a .g) (a .i) (chunk-set (a .g) (a .i) (a .stripe .now) (a .role) (a .t5) (here .pre .0) (record { known = known; fits = omega (arith, here .pre .1) }) (search needs))
     (λ j p. sym (rw (lt-ltb (a .role) (a .g .n + 2) known))))
 
 returns-2 : tie.Need-returns-2
 returns-2 c =
     let a = c .before .before .before .args in
-    passed-none (a .g) (a .i) (a .stripe .now) (λ j e. putRole (a .g .n) (a .role) (getD (a .t5) j 0) e) (λ j e. rw (le-ltb (a .role) (a .g .n + 2) (c .if1 .left)))
+    chunk-none (a .g) (a .i) (a .stripe .now) (λ j e. putRole (a .g .n) (a .role) (getD (a .t5) j 0) e) (λ j e. rw (le-ltb (a .role) (a .g .n + 2) (c .if1 .left)))
 
 pub set-role-spec : {M : Type 1} → statement M
 set-role-spec =

@@ -1,7 +1,7 @@
 -- `stripe::set_roles` meets its contract: one role after the other.
 -- Assumes nothing.
 use borrow.Author.Needs.{needs}
-use Rattle.stripe.proofs.Passed.{passed-then}
+use Rattle.stripe.proofs.ChunkMapped.{chunk-then}
 use Rattle.stripe.proofs.set_roles.Statement.{statement}
 use Rattle.stripe.proofs.set_roles.Tie as tie
 
@@ -17,7 +17,7 @@ same-length c = search needs
 returns : tie.Need-returns
 returns c =
     let a = c .before .before .before .before .before .before .before .before .before .args in
-    passed-then (a .g) (a .i) (c .before .before .before .before .before .before .set-role .ensures) (c .before .before .set-role2 .ensures)
+    chunk-then (a .g) (a .i) (c .before .before .before .before .before .before .set-role .ensures) (c .before .before .set-role2 .ensures)
 
 pub set-roles-spec : {M : Type 1} → statement M
 set-roles-spec = tie.close (tie.spec set-role-requires set-role-requires-2 same-length returns)

@@ -3,9 +3,9 @@
 use mathlib.Core.Path.{_≡_, refl, ap₂, _∙_}
 use borrow.Author.Needs.{needs}
 use Rattle.gf256.specs.Field.{sum, product}
-use Rattle.stripe.specs.Column.{reedSolomon, syndromeP, syndromeQ}
-use Rattle.stripe.specs.Parts.{without}
-use Rattle.stripe.specs.Stripe.{column}
+use Rattle.column.specs.Column.{reedSolomon, syndromeP, syndromeQ}
+use Rattle.stripe.specs.Engine.{without}
+use Rattle.shape.specs.Layout.{column}
 use Rattle.stripe.proofs.solve.Statement.{statement}
 use Rattle.stripe.proofs.solve.Tie as tie
 

@@ -6,12 +6,12 @@ use native.Mathlib.Nat.{le-refl, le-add-right}
 use borrow.Author.Needs.{needs}
 use lib.Dec.{eqb}
 use Rattle.gf256.specs.Field.{sum}
-use Rattle.stripe.proofs.Passed.{passed-then}
+use Rattle.stripe.proofs.ChunkMapped.{chunk-then}
 use Rattle.stripe.proofs.Solved.{rest-p, rest-q, emptied-parity}
-use Rattle.stripe.specs.Choice.{choose}
-use Rattle.stripe.specs.Column.{Column, reedSolomon, parityP, parityQ}
-use Rattle.stripe.specs.Parts.{without}
-use Rattle.stripe.specs.Stripe.{column}
+use Rattle.base.specs.Choice.{choose}
+use Rattle.column.specs.Column.{Column, reedSolomon, parityP, parityQ}
+use Rattle.stripe.specs.Engine.{without}
+use Rattle.shape.specs.Layout.{column}
 use Rattle.stripe.proofs.survivors.Statement.{statement}
 use Rattle.stripe.proofs.survivors.Tie as tie
 
@@ -41,7 +41,7 @@ returns c =
     let a = c .before .before .before .before .before .before .before .before .before .before .before .before .before .before .before .before .before .before .before .before .args in
     let n = a .g .n in
     let e : ℕ → Column = λ j. column (a .g) (a .stripe .now) (a .i + j) in
-    let passed = passed-then (a .g) (a .i) (c .before .before .before .before .before .before .before .before .before .before .before .before .before .before .before .before .before .clear .ensures) (c .before .before .before .before .before .before .before .before .before .before .before .before .before .clear2 .ensures) in
+    let passed = chunk-then (a .g) (a .i) (c .before .before .before .before .before .before .before .before .before .before .before .before .before .before .before .before .before .clear .ensures) (c .before .before .before .before .before .before .before .before .before .before .before .before .before .clear2 .ensures) in
     let rest = c .before .before .before .before .before .before .before .before .before .chunk-parities .ensures in
     let stored : (r j : ℕ) → n ≤ r → j < 64 → without (a .x) (a .y) (column (a .g) (c .before .before .before .before .before .before .before .before .before .before .before .before .before .clear2 .last .1 .0) (a .i + j)) r ≡ without (a .x) (a .y) (e j) r =
     λ r j h p. ap (λ (v : ℕ). choose (eqb r (a .x)) 0 (choose (eqb r (a .y)) 0 v)) (ap (λ (k : Column). k r) (passed .within j p) ∙ emptied-parity n (a .x) (a .y) (e j) r h) in (

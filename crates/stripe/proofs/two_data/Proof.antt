@@ -3,10 +3,10 @@
 use mathlib.Core.Path.{ap₂, _∙_}
 use Prim.Native.Nat.{ℕ}
 use borrow.Author.Needs.{needs}
-use Rattle.stripe.proofs.Places.{lift-same}
+use Rattle.shape.proofs.Places.{lift-same}
 use Rattle.stripe.proofs.Solved.{solved-two}
-use Rattle.stripe.specs.Parts.{solved}
-use Rattle.stripe.specs.Stripe.{lift}
+use Rattle.stripe.specs.Engine.{solved}
+use Rattle.shape.specs.Layout.{lift}
 use Rattle.stripe.specs.declared.Rule.the-variants.{Mixed}
 use Rattle.stripe.proofs.two_data.Statement.{statement}
 use Rattle.stripe.proofs.two_data.Tie as tie

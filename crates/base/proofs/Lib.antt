@@ -1,0 +1,5 @@
+pub mod Choice
+pub mod Table
+pub mod Splice
+pub mod Fill
+pub mod Refused

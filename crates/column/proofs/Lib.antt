@@ -1,0 +1,9 @@
+pub mod Put
+pub mod Total
+pub mod Weighted
+pub mod Loss
+pub mod ReedSolomon
+pub mod Columns
+pub mod Rebuild
+pub mod Series
+pub mod Verdicts

@@ -1,0 +1,156 @@
+-- The check is right: where a column was encoded and at most one device has changed in it since, its verdict names that device; and it
+-- is 0 exactly where both equations hold. The four rows of the paper's table, and equations 24 to 27.
+-- Assumes nothing.
+use mathlib.Core.Path.{_≡_, refl, sym, ap, ap₂, _∙_}
+use mathlib.Core.Logic.{_≢_, _↔_}
+use mathlib.Core.Bool.{Bool, true, false}
+use Prim.Native.Nat.{ℕ, _+_, _≤_, _<_}
+use native.Mathlib.Nat.{suc-ne-zero}
+use native.Mathlib.Omega.{arith}
+use native.Mathlib.Decide.{ℕ-discrete}
+use borrow.Author.Tests.{ne-eqb, lt-ltb}
+use lib.Dec.{ltb}
+use Rattle.gf256.specs.Field.{sum, product, power, inverse, logarithm}
+use Rattle.gf256.proofs.Laws.{sum-self, sum-exchange, sum-only-zero, zero-sum, xor-lt, product-right, product-comm, product-assoc, product-one, product-inverse, product-nonzero, power-lt, power-of-two-nonzero, logarithm-power-of-two}
+use Rattle.base.specs.Choice.{choose}
+use Rattle.column.specs.Column.{Column, put, parityP, parityQ, syndromeP, syndromeQ, Encoded, reedSolomon, verdictOf, verdict, located}
+use Rattle.column.proofs.Total.{total-same}
+use Rattle.column.proofs.Put.{put-same, put-other, put-back}
+use Rattle.column.proofs.Weighted.{Additive, weighted, weighted-put, weighted-outside}
+use Rattle.column.proofs.ReedSolomon.{reed-solomon}
+use Rattle.column.specs.Lawful.{Symbols}
+use Rattle.column.proofs.Series.{encoded-zero, zero-encoded}
+
+-- ---- the rows of the table
+row-clean : (n : ℕ) → verdictOf n 0 0 ≡ 0
+unfolding verdictOf
+row-clean n = refl
+
+row-p : (n p : ℕ) → p ≢ 0 → verdictOf n p 0 ≡ 1
+unfolding verdictOf
+row-p n p h = rw (ne-eqb p 0 h)
+
+row-q : (n q : ℕ) → q ≢ 0 → verdictOf n 0 q ≡ 2
+unfolding verdictOf
+row-q n q h = rw (ne-eqb q 0 h)
+
+row-both : (n p q : ℕ) → p ≢ 0 → q ≢ 0 → verdictOf n p q ≡ located n (logarithm (product q (inverse p)))
+unfolding verdictOf
+row-both n p q hp hq = rw (ne-eqb p 0 hp, ne-eqb q 0 hq)
+
+located-nonzero : (n z : ℕ) → located n z ≢ 0
+located-nonzero n z = go (ltb z n)
+  where
+    go : (b : Bool) → choose b (16 + z) 3 ≢ 0
+    go true e = absurd (omega arith)
+    go false e = suc-ne-zero 2 e
+
+-- a verdict of 0 is the first row's
+clean-only : (n p q : ℕ) → verdictOf n p q ≡ 0 → (p ≡ 0) × (q ≡ 0)
+clean-only n p q e = go (ℕ-discrete p 0) (ℕ-discrete q 0)
+  where
+    go : Dec (p ≡ 0) → Dec (q ≡ 0) → (p ≡ 0) × (q ≡ 0)
+    go (yes a) (yes b) = (a, b)
+    go (yes a) (no b) = absurd (suc-ne-zero 1 (sym (row-q n q b) ∙ ap (λ (x : ℕ). verdictOf n x q) (sym a) ∙ e))
+    go (no a) (yes b) = absurd (suc-ne-zero 0 (sym (row-p n p a) ∙ ap (verdictOf n p) (sym b) ∙ e))
+    go (no a) (no b) = absurd (located-nonzero n (logarithm (product q (inverse p))) (sym (row-both n p q a b) ∙ e))
+
+module _ (n : ℕ) (few : n ≤ 255) (c : Column) where
+  -- the verdict is 0 exactly where both equations hold
+  pub verdict-zero : (verdict n c ≡ 0) ↔ Encoded reedSolomon n c
+  verdict-zero = (to, from)
+    where
+      to : verdict n c ≡ 0 → Encoded reedSolomon n c
+      to e =
+          let both = clean-only n (syndromeP n c) (syndromeQ reedSolomon n c) e in
+          zero-encoded reedSolomon n c (both .0) (both .1)
+
+      from : Encoded reedSolomon n c → verdict n c ≡ 0
+      from h =
+          let zeros = encoded-zero reedSolomon n c h in
+          ap₂ (verdictOf n) (zeros .0) (zeros .1) ∙ row-clean n
+
+  module _ (symbols : Symbols 8 c) (h : Encoded reedSolomon n c) (v : ℕ) (byte : v < 256) where
+    -- P was changed, and so P* is not 00
+    pub verdict-p : v ≢ c n → verdict n (put n v c) ≡ 1
+    verdict-p changed =
+        ap₂ (verdictOf n) (ap₂ sum (put-same n v c) (weighted-outside (λ k x. x) (λ k x y. refl) n c n v (omega arith)))
+        (ap₂ sum (put-other n v c (n + 1) (omega arith)) (weighted-outside (reedSolomon .act) (reed-solomon .act-sum) n c n v (omega arith)) ∙ encoded-zero reedSolomon n c h .1)
+        ∙ row-p n (sum v (parityP n c)) (λ e. changed (sum-only-zero v (parityP n c) e ∙ sym (h .first)))
+
+    -- Q was
+    pub verdict-q : v ≢ c (n + 1) → verdict n (put (n + 1) v c) ≡ 2
+    verdict-q changed =
+        ap₂ (verdictOf n)
+        (ap₂ sum (put-other (n + 1) v c n (omega arith)) (weighted-outside (λ k x. x) (λ k x y. refl) n c (n + 1) v (omega arith)) ∙ encoded-zero reedSolomon n c h .0)
+        (ap₂ sum (put-same (n + 1) v c) (weighted-outside (reedSolomon .act) (reed-solomon .act-sum) n c (n + 1) v (omega arith)))
+        ∙ row-q n (sum v (parityQ reedSolomon n c)) (λ e. changed (sum-only-zero v (parityQ reedSolomon n c) e ∙ sym (h .second)))
+
+    -- data disk z was: D_z is what stood there, and X_z is v
+    module _ (z : ℕ) (hz : z < n) where
+      abbrev δ : ℕ
+      δ = sum (c z) v
+
+      abbrev P* : ℕ
+      P* = syndromeP n (put z v c)
+
+      abbrev Q* : ℕ
+      Q* = syndromeQ reedSolomon n (put z v c)
+
+      -- stored plus recomputed, for either parity
+      differs : (t : ℕ → ℕ → ℕ) → Additive t → (p : ℕ) → p ≡ weighted t n c → sum p (weighted t n (put z v c)) ≡ t z δ
+      differs t add p e =
+          ap₂ sum (e ∙ ap (weighted t n) (sym (put-back z c)) ∙ weighted-put t add n c z (c z) hz) (weighted-put t add n c z v hz)
+          ∙ sum-exchange (weighted t n (put z 0 c)) (t z (c z)) (weighted t n (put z 0 c)) (t z v)
+          ∙ ap (λ (x : ℕ). sum x (sum (t z (c z)) (t z v))) (sum-self (weighted t n (put z 0 c)))
+          ∙ zero-sum (sum (t z (c z)) (t z v))
+          ∙ sym (add z (c z) v)
+
+      -- P* = D_z + X_z
+      pub equation24 : P* ≡ δ
+      equation24 =
+          ap (λ (p : ℕ). sum p (parityP n (put z v c))) (put-other z v c n (omega arith)) ∙ differs (λ k x. x) (λ k x y. refl) (c n) (h .first)
+
+      -- Q* = g^z·P*
+      pub equation25 : Q* ≡ product (power 2 z) P*
+      unfolding reedSolomon
+      equation25 =
+          ap (λ (q : ℕ). sum q (parityQ reedSolomon n (put z v c))) (put-other z v c (n + 1) (omega arith))
+          ∙ differs (λ k x. product (power 2 k) x) (λ k. product-right (power 2 k)) (c (n + 1)) (h .second)
+          ∙ ap (product (power 2 z)) (sym equation24)
+
+      module _ (changed : v ≢ c z) where
+        p-byte : P* < 256
+        p-byte = rw equation24 (xor-lt 8 (c z) v (symbols z) byte)
+
+        p-nonzero : P* ≢ 0
+        p-nonzero e = changed (sym (sum-only-zero (c z) v (sym equation24 ∙ e)))
+
+        q-nonzero : Q* ≢ 0
+        q-nonzero e =
+            product-nonzero (power 2 z) P* (power-lt 2 z) p-byte (power-of-two-nonzero z) p-nonzero (sym equation25 ∙ e)
+
+        -- Q*/P* = g^z
+        pub equation26 : product Q* (inverse P*) ≡ power 2 z
+        equation26 =
+            ap (λ (q : ℕ). product q (inverse P*)) equation25
+            ∙ product-assoc (power 2 z) P* (inverse P*)
+            ∙ ap (product (power 2 z)) (product-inverse P* p-byte p-nonzero)
+            ∙ product-comm (power 2 z) 1
+            ∙ product-one (power 2 z) (power-lt 2 z)
+
+        -- z = log(Q*/P*)
+        pub equation27 : logarithm (product Q* (inverse P*)) ≡ z
+        equation27 = ap logarithm equation26 ∙ logarithm-power-of-two z (omega arith)
+
+        pub verdict-data : verdict n (put z v c) ≡ 16 + z
+        verdict-data =
+            row-both n P* Q* p-nonzero q-nonzero
+            ∙ ap (located n) equation27
+            ∙ ap (λ (b : Bool). choose b (16 + z) 3) (lt-ltb z n hz)
+
+-- the verdict depends on the column alone
+pub verdict-local : (n : ℕ) (c e : Column) → ((r : ℕ) → r < n + 2 → c r ≡ e r) → verdict n c ≡ verdict n e
+verdict-local n c e same =
+    ap₂ (verdictOf n) (ap₂ sum (same n (omega arith)) (total-same n (λ k p. same k (omega arith))))
+    (ap₂ sum (same (n + 1) (omega arith)) (total-same n (λ k p. ap (reedSolomon .act k) (same k (omega arith)))))

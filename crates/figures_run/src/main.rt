@@ -1,0 +1,312 @@
+// Runs the bench figures and prints a table: the case, the value that it must give, the value that
+// the code gives, and whether they agree.
+use bitmatrix::Finding;
+use bitmatrix::Judgement;
+use column::Device;
+use column::Lost;
+use gf256::Element;
+use shape::Geometry;
+use stripe::Checked;
+ghost use Prim.Native.Nat.{_≤_};
+ghost use lib.ListN.{length};
+
+fn main() {
+    print(b"case", b"expected", b"got", b"ok");
+    field();
+    encoding();
+    rebuilding();
+    checking();
+    judging();
+    answering();
+}
+
+fn field() {
+    row(
+        b"80 * 02",
+        b"1d",
+        byte(Element(0x80).product(Element(0x02))),
+    );
+    row(
+        b"8d * 02",
+        b"07",
+        byte(Element(0x8d).product(Element(0x02))),
+    );
+    row(b"02 to the power 12", b"cd", byte(Element(0x02).power(12)));
+    row(b"inverse of 02", b"8e", byte(Element(0x02).inverse()));
+}
+
+fn encoding() {
+    row(b"encode n=1: 5a", b"P 5a, Q 5a", encoded(&mut [0x5a, 0, 0]));
+    row(
+        b"encode n=3: 01 02 04",
+        b"P 07, Q 15",
+        encoded(&mut [1, 2, 4, 0, 0]),
+    );
+    row(
+        b"encode n=2: 01 80",
+        b"P 81, Q 1c",
+        encoded(&mut [1, 0x80, 0, 0]),
+    );
+    row(
+        b"encode n=255: all 01",
+        b"P 01, Q 00",
+        encoded(&mut [1u8; 257]),
+    );
+    row(
+        b"encode n=255: disk 254 is 01, the others 00",
+        b"P 01, Q 8e",
+        last_disk(),
+    );
+    row(b"encode n=256", b"refusal 1", encoded(&mut [1u8; 258]));
+}
+
+fn rebuilding() {
+    row(
+        b"write 80 to disk 1 of 01 02 04, P 07, Q 15",
+        b"P 85, Q 0c",
+        written(),
+    );
+    row(
+        b"lose disks 0 and 2 of 01 02 04, P 07, Q 15",
+        b"01 and 04",
+        two_lost(),
+    );
+}
+
+fn checking() {
+    row(
+        b"check 01 03 04, P 07, Q 15",
+        b"verdict 17",
+        verdict([1, 3, 4, 7, 0x15]),
+    );
+    row(
+        b"check 01 02 04, P 06, Q 1d",
+        b"verdict 3",
+        verdict([1, 2, 4, 6, 0x1d]),
+    );
+    row(
+        b"check 01 02 04, P 06, Q 17: both are wrong",
+        b"verdict 17",
+        verdict([1, 2, 4, 6, 0x17]),
+    );
+}
+
+fn judging() {
+    let pair = bitmatrix::judge([identity(); 8], 2);
+    row(b"judge two identities", b"unfit, pair (0,1)", finding(pair));
+    let set = bitmatrix::judge(first_set(), 8);
+    row(
+        b"judge row 1 of 004 with X_0",
+        b"fit, 71 ones",
+        finding(set),
+    );
+}
+
+fn answering() {
+    row(b"job: 13 disks of 4,096", b"done", job_result(13, 4096));
+    row(
+        b"job: 14 disks of 4,096",
+        b"refusal 20",
+        job_result(14, 4096),
+    );
+    row(b"job: 1 disk of 4,097", b"refusal 2", job_result(1, 4097));
+}
+
+// ---- the cases
+
+// P and Q of a stripe with blocks of one byte, or the refusal.
+fn encoded(s: &mut [u8]) -> [u8; 17]
+    requires { ⌜ 2 ≤ length (now s) ⌝ }
+{
+    let n = s.len() - 2;
+    let result = stripe::encode(Geometry { n, b: 1 }, s);
+    if result != 0 {
+        return refusal(result);
+    }
+    parities(s[n], s[n + 1])
+}
+
+fn last_disk() -> [u8; 17] {
+    let mut s = [0u8; 257];
+    s[254] = 1;
+    encoded(&mut s)
+}
+
+fn written() -> [u8; 17] {
+    let mut s = [0x01, 0x02, 0x04, 0x07, 0x15];
+    let result = stripe::write(Geometry { n: 3, b: 1 }, &mut s, 1, 0, b"\x80");
+    if result != 0 {
+        return refusal(result);
+    }
+    parities(s[3], s[4])
+}
+
+// An encode of n disks of b bytes, with the stripe of 13 disks of 4,096 behind the header.
+fn job_result(n: u8, b: u16) -> [u8; 17] {
+    let mut job = [0u8; 61454];
+    job[0] = b'S';
+    job[1] = b'R';
+    job[2] = b'J';
+    job[4] = 1;
+    job[5] = 1;
+    job[7] = n;
+    job[8] = (b / 256 % 256) as u8;
+    job[9] = (b % 256) as u8;
+    job[10] = 0xff;
+    job[11] = 0xff;
+    job[12] = 0xff;
+    job[13] = 0xff;
+    let mut out = [0xffu8; 61446];
+    let count = job::answer(&job, &mut out);
+    if out[5] != 0 {
+        return refusal(out[5]);
+    }
+    if count != 61446 {
+        return *b"wrong length     ";
+    }
+    *b"done             "
+}
+
+fn two_lost() -> [u8; 17] {
+    let mut s = [0xff, 0x02, 0xff, 0x07, 0x15];
+    let result = stripe::rebuild(
+        Geometry { n: 3, b: 1 },
+        &mut s,
+        Lost::Two(Device::Data(0), Device::Data(2)),
+    );
+    if result != 0 {
+        return refusal(result);
+    }
+    with_byte(with_byte(*b".. and ..        ", 0, s[0]), 7, s[2])
+}
+
+fn verdict(s: [u8; 5]) -> [u8; 17] {
+    let mut verdicts = [0u16; 1];
+    match stripe::check(Geometry { n: 3, b: 1 }, &s, &mut verdicts) {
+        Checked::Refused(n) => refusal(n),
+        Checked::Summary(_) => verdict_text(verdicts[0]),
+    }
+}
+
+fn identity() -> [u8; 8] {
+    [1, 2, 4, 8, 16, 32, 64, 128]
+}
+
+// X_0, the identity, and the seven matrices of row 1 of source document 004.
+fn first_set() -> [[u8; 8]; 8] {
+    [
+        identity(),
+        [128, 8, 1, 4, 192, 2, 32, 16],
+        [64, 12, 16, 1, 128, 8, 2, 32],
+        [4, 32, 128, 64, 1, 24, 16, 2],
+        [32, 64, 3, 128, 4, 16, 8, 1],
+        [2, 4, 8, 16, 32, 64, 128, 5],
+        [8, 1, 64, 32, 2, 128, 48, 4],
+        [16, 128, 2, 34, 8, 4, 1, 64],
+    ]
+}
+
+// ---- values as text
+
+fn byte(x: Element) -> [u8; 17] {
+    with_byte(*b"..               ", 0, x.0)
+}
+
+fn parities(p: u8, q: u8) -> [u8; 17] {
+    with_byte(with_byte(*b"P .., Q ..       ", 2, p), 8, q)
+}
+
+fn refusal(number: u8) -> [u8; 17] {
+    let n = number as usize;
+    if n < 10 {
+        return with_digit(*b"refusal .        ", 8, n);
+    }
+    with_digit(with_digit(*b"refusal ..       ", 8, n / 10), 9, n)
+}
+
+fn verdict_text(verdict: u16) -> [u8; 17] {
+    let v = verdict as usize;
+    if v < 10 {
+        return with_digit(*b"verdict .        ", 8, v);
+    }
+    with_digit(with_digit(*b"verdict ..       ", 8, v / 10), 9, v)
+}
+
+fn finding(judgement: Judgement) -> [u8; 17] {
+    match judgement {
+        Judgement::Refused(n) => refusal(n),
+        Judgement::Judged {
+            finding,
+            ones,
+            minimal: _,
+        } => match finding {
+            Finding::Fit => with_digit(with_digit(*b"fit, .. ones     ", 5, ones / 10), 6, ones),
+            Finding::Singular(i) => with_digit(*b"unfit, matrix .  ", 14, i),
+            Finding::Pair(i, j) => with_digit(with_digit(*b"unfit, pair (.,.)", 13, i), 15, j),
+        },
+    }
+}
+
+// The text with two hexadecimal digits at a place.
+fn with_byte(text: [u8; 17], at: usize, x: u8) -> [u8; 17]
+    requires { ⌜ at ≤ 15 ⌝ }
+{
+    let mut new = text;
+    new[at] = hex(x / 16);
+    new[at + 1] = hex(x);
+    new
+}
+
+// The text with the last decimal digit of n at a place.
+fn with_digit(text: [u8; 17], at: usize, n: usize) -> [u8; 17]
+    requires { ⌜ at ≤ 16 ⌝ }
+{
+    let mut new = text;
+    new[at] = b'0' + (n % 10) as u8;
+    new
+}
+
+// The last hexadecimal digit.
+fn hex(x: u8) -> u8 {
+    let d = x % 16;
+    if d < 10 { b'0' + d } else { b'a' + (d - 10) }
+}
+
+// ---- the table
+
+fn row(case: &[u8], expected: &[u8], got: [u8; 17]) {
+    if reads(&got, expected, b"                 ") {
+        print(case, expected, &got, b"yes");
+    } else {
+        print(case, expected, &got, b"NO");
+    }
+}
+
+// Whether the text is the expected one, with blanks after it.
+fn reads(text: &[u8], expected: &[u8], blank: &[u8]) -> bool {
+    let n = expected.len();
+    if text.len() < n {
+        return false;
+    }
+    if blank.len() < n {
+        return false;
+    }
+    check::same(&text[0..n], expected) && check::same(&text[n..], &blank[n..])
+}
+
+fn print(case: &[u8], expected: &[u8], got: &[u8], ok: &[u8]) {
+    cell(case, b"                                               ");
+    cell(expected, b"                   ");
+    cell(got, b"                   ");
+    io::write_all(1, ok);
+    io::write_all(1, b"\n");
+}
+
+// The text, with blanks up to the width of the column.
+fn cell(text: &[u8], blank: &[u8]) {
+    io::write_all(1, text);
+    let n = text.len();
+    if n < blank.len() {
+        io::write_all(1, &blank[n..]);
+    }
+}

@@ -1,0 +1,113 @@
+-- Where the symbols of a stripe stand in its buffer: the one law of `lift`, and what a store at a place does to the columns.
+-- Assumes nothing.
+use mathlib.Core.Path.{_≡_, refl, sym, ap, ap₂, subst, fun-ext, _∙_}
+use mathlib.Core.Logic.{_≢_}
+use mathlib.Core.List.{List}
+use Prim.Native.Nat.{ℕ, suc, _+_, _/_, _%_, _≤_, _<_}
+use native.Mathlib.Nat.{div-add-mod', mod-lt, mod-eq-of-lt, div-lt-iff-lt-mul, suc-mul, mul-le-mul-right}
+use native.Mathlib.Omega.{arith}
+use native.Mathlib.Decide.{decLt}
+use lib.Arith.{digits-div, digits-mod, digits-lt}
+use lib.ListN.{length, getD, set, List·getD-eq-default}
+use lib.Seq.{ext-getD, getD-set-same, getD-set-other}
+use Rattle.shape.specs.declared.Geometry.{Geometry}
+use Rattle.base.specs.Table.{tabulate}
+use Rattle.base.proofs.Table.{length-tabulate, getD-tabulate}
+use Rattle.column.specs.Column.{Column, put}
+use Rattle.shape.specs.Layout.{start, lowStart, size, column, roleAt, columnAt, lift}
+use Rattle.column.proofs.Put.{by-role, put-same, put-other}
+
+-- ---- places
+module _ (g : Geometry) {i : ℕ} (hi : i < g .b) where
+  pub role-at : (r : ℕ) → roleAt g (start g r + i) ≡ r
+  unfolding roleAt start
+  role-at r = digits-div r hi
+
+  pub column-at : (r : ℕ) → columnAt g (start g r + i) ≡ i
+  unfolding columnAt start
+  column-at r = digits-mod r hi
+
+  pub within : {r : ℕ} → r < g .n + 2 → start g r + i < size g
+  unfolding start
+  within hr = digits-lt hr hi
+
+-- where the numbers have no other bits than the low ones
+pub low-start : (g : Geometry) (r : ℕ) → g .b < 4294967296 → r < 65536 → lowStart g r ≡ start g r
+unfolding start
+low-start g r hb hr = rw (mod-eq-of-lt hb, mod-eq-of-lt hr)
+
+-- a block ends where the next one begins, and within the stripe
+pub block-end : (g : Geometry) (r : ℕ) → start g r + g .b ≡ start g (suc r)
+unfolding start
+block-end g r = sym (suc-mul r (g .b))
+
+pub start-mono : (g : Geometry) {r t : ℕ} → r ≤ t → start g r ≤ start g t
+unfolding start
+start-mono g h = mul-le-mul-right (g .b) h
+
+pub start-end : (g : Geometry) → start g (g .n + 2) ≡ size g
+unfolding start
+start-end g = refl
+
+-- ---- a store at a place changes one symbol of one column
+module _ (g : Geometry) (s : List ℕ) (v d : ℕ) {i : ℕ} (hi : i < g .b) where
+  pub stored-here : length s ≡ size g → d < g .n + 2 → column g (set s (start g d + i) v) i ≡ put d v (column g s i)
+  stored-here len hd =
+      by-role d
+      (getD-set-same s (start g d + i) v 0 (subst (λ (n : ℕ). start g d + i < n) (sym len) (within g hi hd))
+      ∙ sym (put-same d v (column g s i)))
+      (λ r h.
+      getD-set-other s (start g d + i) (start g r + i) v 0 (λ e. h (sym (role-at g hi r) ∙ ap (roleAt g) e ∙ role-at g hi d))
+      ∙ sym (put-other d v (column g s i) r h))
+
+  pub stored-elsewhere : {j : ℕ} → j < g .b → j ≢ i → column g (set s (start g d + i) v) j ≡ column g s j
+  stored-elsewhere {j} hj h =
+      fun-ext λ r.
+      getD-set-other s (start g d + i) (start g r + j) v 0
+      (λ e. h (sym (column-at g hj r) ∙ ap (columnAt g) e ∙ column-at g hi d))
+
+-- the length of a lifted stripe, and what stands at each place of it
+pub length-lift : (g : Geometry) (f : ℕ → Column → Column) (s : List ℕ) → length (lift g f s) ≡ length s
+unfolding lift
+length-lift g f s = length-tabulate (length s) (λ j. f (columnAt g j) (column g s (columnAt g j)) (roleAt g j))
+
+pub lift-at : (g : Geometry) (f : ℕ → Column → Column) (s : List ℕ) → length s ≡ size g → {i r : ℕ} → i < g .b → r < g .n + 2
+    → column g (lift g f s) i r ≡ f i (column g s i) r
+unfolding lift
+lift-at g f s len {i} {r} hi hr =
+    getD-tabulate (length s) (λ j. f (columnAt g j) (column g s (columnAt g j)) (roleAt g j)) (start g r + i) 0
+    (subst (λ (n : ℕ). start g r + i < n) (sym len) (within g hi hr))
+    ∙ ap₂ (λ (j t : ℕ). f j (column g s j) t) (column-at g hi r) (role-at g hi r)
+
+-- functions that are the same on every column are so lifted
+pub lift-same : (g : Geometry) {f h : Column → Column} (s : List ℕ) → ((c : Column) → f c ≡ h c) → lift g (λ i. f) s ≡ lift g (λ i. h) s
+lift-same g s same = ap (λ (f : Column → Column). lift g (λ i. f) s) (fun-ext same)
+
+-- a function lifted onto one that leaves what is past the last role
+pub lift-lift : (g : Geometry) (f h : ℕ → Column → Column) (s : List ℕ) → 0 < g .b → length s ≡ size g
+    → ((i : ℕ) (c : Column) (r : ℕ) → g .n + 2 ≤ r → h i c r ≡ c r)
+    → lift g f (lift g h s) ≡ lift g (λ i c. f i (h i c)) s
+unfolding lift columnAt start
+lift-lift g f h s pos len idle =
+    ap₂ tabulate (length-lift g h s)
+    (fun-ext λ j. ap (λ (c : Column). f (columnAt g j) c (roleAt g j)) (fun-ext λ r. at (mod-lt j pos) (decLt r (g .n + 2))))
+  where
+    at : {i r : ℕ} → i < g .b → Dec (r < g .n + 2) → column g (lift g h s) i r ≡ h i (column g s i) r
+    at hi (yes hr) = lift-at g h s len hi hr
+    at {i} {r} hi (no p) =
+        let past : g .n + 2 ≤ r = omega arith in
+        let beyond : length s ≤ start g r + i = omega (arith, start-mono g past) in
+        List·getD-eq-default (lift g h s) 0 (subst (λ (n : ℕ). n ≤ start g r + i) (sym (length-lift g h s)) beyond)
+        ∙ sym (idle i (column g s i) r past ∙ List·getD-eq-default s 0 beyond)
+
+-- two stripes are the same where all their columns are
+pub by-columns : (g : Geometry) → 0 < g .b → (s t : List ℕ) → length s ≡ size g → length t ≡ size g
+    → ((i r : ℕ) → i < g .b → r < g .n + 2 → column g s i r ≡ column g t i r)
+    → s ≡ t
+unfolding start
+by-columns g pos s t hs ht same = ext-getD 0 s t (hs ∙ sym ht) at
+  where
+    at : (j : ℕ) → j < length s → getD s j 0 ≡ getD t j 0
+    at j h =
+        subst (λ (k : ℕ). getD s k 0 ≡ getD t k 0) (div-add-mod' j (g .b))
+        (same (j % g .b) (j / g .b) (mod-lt j pos) (div-lt-iff-lt-mul pos .1 (subst (λ (n : ℕ). j < n) hs h)))

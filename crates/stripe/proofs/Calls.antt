@@ -1,0 +1,42 @@
+-- A call of check, refused and done, from its answer and the buffer that it leaves.
+-- Assumes nothing.
+use mathlib.Core.Path.{_≡_, refl, sym, ap, _∙_}
+use mathlib.Core.Logic.{_≢_}
+use mathlib.Core.List.{List}
+use Prim.Native.Nat.{ℕ, zero, suc}
+use lib.ListN.{length}
+use Rattle.base.proofs.Refused.{leaves-alone, leaves-done}
+use Rattle.shape.specs.declared.Geometry.{Geometry}
+use Rattle.shape.specs.Refusals.{checkRefusal}
+use Rattle.stripe.specs.declared.Checked.{Checked}
+use Rattle.stripe.specs.declared.Checked.the-variants.{Refused, Summary}
+use Rattle.stripe.specs.Stripe.{verdicts, summary}
+use Rattle.stripe.specs.Calls.{numberOf, checkedOf, afterCheck, CheckCall}
+
+checked-refused : (k v : ℕ) → k ≢ 0 → checkedOf k v ≡ Refused k
+checked-refused zero v n = absurd (n refl)
+checked-refused (suc k) v n = refl
+
+checked-number : (k v : ℕ) → numberOf (checkedOf k v) ≡ k
+checked-number zero v = refl
+checked-number (suc k) v = refl
+
+module _ (g : Geometry) (s before : List ℕ) where
+  abbrev refusal : ℕ
+  refusal = checkRefusal g (length s) (length before)
+
+  called : (r : Checked) (after : List ℕ) → r ≡ checkedOf refusal (summary (verdicts g s)) → after ≡ afterCheck g s before → CheckCall g s before r after
+  called r after e h = record { number = ap numberOf e ∙ checked-number refusal (summary (verdicts g s)); result = e; room = h }
+
+  pub check-refused : (k : ℕ) → k ≡ refusal → k ≢ 0 → CheckCall g s before (Refused k) before
+  unfolding afterCheck
+  check-refused k e n =
+      called (Refused k) before
+      (sym (checked-refused k (summary (verdicts g s)) n) ∙ ap (λ (k : ℕ). checkedOf k (summary (verdicts g s))) e)
+      (leaves-alone (verdicts g s) before e n)
+
+  pub check-done : {k : ℕ} (v : ℕ) (after : List ℕ) → k ≡ refusal → k ≡ 0 → v ≡ summary (verdicts g s) → after ≡ verdicts g s
+      → CheckCall g s before (Summary v) after
+  unfolding afterCheck
+  check-done v after e none same h =
+      called (Summary v) after (ap Summary same ∙ sym (ap (λ (k : ℕ). checkedOf k (summary (verdicts g s))) (sym e ∙ none))) (leaves-done (verdicts g s) before e none h)
