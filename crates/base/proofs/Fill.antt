@@ -1,5 +1,5 @@
 -- A loop that fills a list from the front: the places below k are new, the others old. Four laws serve every such loop: none filled, one
--- place more, a part more, and all.
+-- place more, a part more, and all, or up to where the rule changes nothing.
 -- Assumes nothing.
 use mathlib.Core.Path.{_≡_, refl, sym, ap, subst, _∙_}
 use mathlib.Core.Logic.{⊎-elim}
@@ -62,8 +62,14 @@ module _ {f : ℕ → ℕ → ℕ} {n : ℕ} {s : List ℕ} where
       fits : i + length m ≤ length t
       fits = omega (arith, size, fill .long)
 
+  -- the rule changes nothing from k on
+  pub fill-rest : {t : List ℕ} {k : ℕ} → Filled f n s t k → ((j : ℕ) → k ≤ j → j < n → f j (getD s j 0) ≡ getD s j 0) → t ≡ tabulate n (λ j. f j (getD s j 0))
+  fill-rest {t} {k} fill same =
+      is-tabulate n (λ j. f j (getD s j 0)) t (fill .long)
+      (λ j p. ⊎-elim (λ l. fill .new j l) (λ l. fill .old j l ∙ sym (same j l p)) (below-or-not j k))
+
   pub fill-all : {t : List ℕ} {k : ℕ} → Filled f n s t k → n ≤ k → t ≡ tabulate n (λ j. f j (getD s j 0))
-  fill-all {t} fill h = is-tabulate n (λ j. f j (getD s j 0)) t (fill .long) (λ j p. fill .new j (omega arith))
+  fill-all fill h = fill-rest fill (λ j p q. absurd (omega arith))
 
 -- where the new numbers do not depend on the old ones, a second loop goes on from what the first has filled
 pub fill-again : {h : ℕ → ℕ} {n : ℕ} {s t : List ℕ} {k : ℕ} → Filled (λ j v. h j) n s t k → Filled (λ j v. h j) n t t k

@@ -7,7 +7,8 @@ use Rattle.shape.specs.declared.Geometry.{Geometry}
 use Rattle.shape.specs.Refusals.{checkRefusal}
 use Rattle.stripe.specs.declared.Checked.{Checked}
 use Rattle.stripe.specs.declared.Checked.the-variants.{Refused, Summary}
-use Rattle.stripe.specs.Stripe.{verdicts, summary}
+use Rattle.stripe.specs.Stripe.{verdicts}
+use Rattle.verdict.specs.Summary.{summary}
 use Rattle.stripe.specs.Calls.{checkedOf, afterCheck}
 
 -- the summary, which is at most 270, or 512 and a refusal's number

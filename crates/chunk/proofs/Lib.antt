@@ -1,3 +1,4 @@
+pub mod Copied
 pub mod Zeros
 pub mod Digits
 pub mod Laws

@@ -13,7 +13,7 @@ use lib.Bits.{bitOr, or-zero-r, or-add-and, and-le-l}
 use lib.ListN.{getD}
 use Rattle.base.specs.Choice.{both}
 use Rattle.base.proofs.Choice.{both-true}
-use Rattle.chunk.specs.Chunk.{zeros, allZero}
+use Rattle.chunk.specs.Chunk.{width, zeros, allZero}
 
 -- an or is 0 just where both are
 or-zero : (r v : ℕ) → eqb (bitOr r v) 0 ≡ both (eqb v 0) (eqb r 0)
@@ -37,5 +37,5 @@ zeros-at p q (suc n) e j h =
     ⊎-elim (λ m. rw m (eqb-true (getD p n 0) 0 (a .0), eqb-true (getD q n 0) 0 (b .0))) (λ l. zeros-at p q n (a .1) j l)
     (eq-or-lt-of-le (le-of-suc-le-suc h))
 
-pub all-zero-at : (p q : List ℕ) → allZero p q ≡ true → (j : ℕ) → j < 64 → (getD p j 0 ≡ 0) × (getD q j 0 ≡ 0)
-all-zero-at p q = zeros-at p q 64
+pub all-zero-at : (p q : List ℕ) → allZero p q ≡ true → (j : ℕ) → j < width → (getD p j 0 ≡ 0) × (getD q j 0 ≡ 0)
+all-zero-at p q = zeros-at p q width

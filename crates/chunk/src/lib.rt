@@ -1,32 +1,88 @@
-// Sums and products of 64 bytes of a block at once, place by place. A loop over the places has a
+// A chunk: WIDTH bytes of a block at once, worked on place by place. A loop over the places has a
 // fixed length, so that it becomes vector code. What a function writes it first lends as a slice,
-// which compiles to nothing: it tells the proof that there are 64 bytes.
+// which compiles to nothing: it tells the proof how many bytes there are.
 use gf256::Element;
 ghost use mathlib.Core.Path.{_≡_};
-ghost use lib.ListN.{getD};
+ghost use Prim.Native.Nat.{_≤_};
+ghost use lib.Dec.{ltb};
+ghost use lib.ListN.{length, getD};
+ghost use Rattle.base.specs.Choice.{choose};
+ghost use Rattle.base.specs.Table.{tabulate};
 ghost use Rattle.gf256.specs.Field.{double};
-ghost use Rattle.chunk.specs.Chunk.{each, plus, doublePlus, plusProduct, allZero};
+ghost use Rattle.chunk.specs.Chunk.{width, each, stored, plus, doublePlus, plusProduct, plusBit, combined, allZero};
+
+// The number of columns that are worked on at a time.
+pub const WIDTH: usize = 64;
+
+// How many of the columns that are left the next chunk takes.
+pub fn part(left: usize) -> usize
+    ensures { λ r. ⌜ r ≡ choose (ltb left width) left width ⌝ }
+{
+    if left < WIDTH { left } else { WIDTH }
+}
+
+// The first WIDTH bytes, with 00 for those that are missing. Here and in `store` the part way has a chunk
+// of its own, so that a whole chunk can stay in registers; the 00 stored last keeps the compiler from
+// making one copy of unknown length of both ways.
+pub fn load(from: &[u8]) -> [u8; WIDTH]
+    ensures { λ r. ⌜ r ≡ each (λ j. getD (now (from .entry)) j 0) ⌝ }
+{
+    if from.len() < WIDTH {
+        let mut part = [0u8; WIDTH];
+        let count = from.len();
+        copy(&mut part, from, count);
+        part[count] = 0;
+        return part;
+    }
+    let mut to = [0u8; WIDTH];
+    copy(&mut to, from, WIDTH);
+    to
+}
+
+// Puts as many bytes of a chunk as there is room for.
+pub fn store(to: &mut [u8], c: [u8; WIDTH])
+    ensures { λ _. ⌜ now (to .exit) ≡ stored (now (to .entry)) c ⌝ }
+{
+    if to.len() < WIDTH {
+        let part = c;
+        let count = to.len();
+        copy(to, &part, count);
+    } else {
+        copy(to, &c, WIDTH);
+    }
+}
+
+fn copy(to: &mut [u8], from: &[u8], count: usize)
+    requires { ⌜ (count ≤ length (now to)) × (count ≤ length (now from)) ⌝ }
+    ensures { λ _. ⌜ now (to .exit) ≡ tabulate (length (now (to .entry))) (λ j. choose (ltb j count) (getD (now (from .entry)) j 0) (getD (now (to .entry)) j 0)) ⌝ }
+{
+    let mut j = 0;
+    while j < count {
+        to[j] = from[j];
+        j += 1;
+    }
+}
 
 // a + d.
-pub fn add(a: &mut [u8; 64], d: &[u8; 64])
+pub fn add(a: &mut [u8; WIDTH], d: &[u8; WIDTH])
     ensures { λ _. ⌜ now (a .exit) ≡ plus (now (a .entry)) (now (d .entry)) ⌝ }
 {
     let _a: &[u8] = a;
     let mut j = 0;
-    while j < 64 {
+    while j < WIDTH {
         a[j] = Element(a[j]).sum(Element(d[j])).0;
         j += 1;
     }
 }
 
 // One more disk in both sums: p + d, and by Horner's rule 02 q + d.
-pub fn add_disk(p: &mut [u8; 64], q: &mut [u8; 64], d: &[u8; 64])
+pub fn add_disk(p: &mut [u8; WIDTH], q: &mut [u8; WIDTH], d: &[u8; WIDTH])
     ensures { λ _. ⌜ (now (p .exit) ≡ plus (now (p .entry)) (now (d .entry))) × (now (q .exit) ≡ doublePlus (now (q .entry)) (now (d .entry))) ⌝ }
 {
     let _p: &[u8] = p;
     let _q: &[u8] = q;
     let mut i = 0;
-    while i < 64 {
+    while i < WIDTH {
         let x = Element(d[i]);
         p[i] = Element(p[i]).sum(x).0;
         q[i] = Element(q[i]).double().sum(x).0;
@@ -35,11 +91,11 @@ pub fn add_disk(p: &mut [u8; 64], q: &mut [u8; 64], d: &[u8; 64])
 }
 
 // a + c x, by c's bits from the lowest up.
-pub fn add_product(a: &mut [u8; 64], c: u8, x: [u8; 64])
-    ensures { λ _. ⌜ now (a .exit) ≡ plusProduct (now (a .entry)) c x ⌝ }
+pub fn add_product(a: &mut [u8; WIDTH], c: Element, x: [u8; WIDTH])
+    ensures { λ _. ⌜ now (a .exit) ≡ plusProduct (now (a .entry)) (c .0) x ⌝ }
 {
     let _a: &[u8] = a;
-    let mut c = c;
+    let mut c = c.0;
     let mut x = x;
     while c != 0 {
         if c % 2 == 1 {
@@ -50,24 +106,49 @@ pub fn add_product(a: &mut [u8; 64], c: u8, x: [u8; 64])
     }
 }
 
-fn double(x: &mut [u8; 64])
+// a p + b q, by the bits of both multipliers from the highest down, with one doubling for each two bits.
+pub fn combine(a: Element, p: [u8; WIDTH], b: Element, q: [u8; WIDTH]) -> [u8; WIDTH]
+    ensures { λ r. ⌜ r ≡ combined (a .0) p (b .0) q ⌝ }
+{
+    let mut d = [0u8; WIDTH];
+    let mut k = 8u8;
+    while 0 < k {
+        k -= 1;
+        double(&mut d);
+        add_bit(&mut d, a.0 >> k, &p);
+        add_bit(&mut d, b.0 >> k, &q);
+    }
+    d
+}
+
+// d + x where the lowest bit of m is one.
+fn add_bit(d: &mut [u8; WIDTH], m: u8, x: &[u8; WIDTH])
+    ensures { λ _. ⌜ now (d .exit) ≡ each (λ j. plusBit (getD (now (d .entry)) j 0) m (getD (now (x .entry)) j 0)) ⌝ }
+{
+    let _d: &[u8] = d;
+    if m % 2 == 1 {
+        add(d, x);
+    }
+}
+
+fn double(x: &mut [u8; WIDTH])
     ensures { λ _. ⌜ now (x .exit) ≡ each (λ j. double (getD (now (x .entry)) j 0)) ⌝ }
 {
     let _x: &[u8] = x;
     let mut j = 0;
-    while j < 64 {
+    while j < WIDTH {
         x[j] = Element(x[j]).double().0;
         j += 1;
     }
 }
 
 // Whether both are 00 at every place.
-pub fn are_zero(p: &[u8; 64], q: &[u8; 64]) -> bool
+pub fn are_zero(p: &[u8; WIDTH], q: &[u8; WIDTH]) -> bool
     ensures { λ r. ⌜ r ≡ allZero (now (p .entry)) (now (q .entry)) ⌝ }
 {
     let mut r = 0;
     let mut j = 0;
-    while j < 64 {
+    while j < WIDTH {
         r = r | p[j] | q[j];
         j += 1;
     }

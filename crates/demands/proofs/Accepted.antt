@@ -20,8 +20,9 @@ use Rattle.shape.specs.Layout.{size, column, columnAt, roleAt, lift}
 use Rattle.shape.specs.Refusals.{encodeRefusal, writeRefusal, rebuildRefusal}
 use Rattle.shape.proofs.Places.{length-lift, lift-at}
 use Rattle.shape.proofs.Refused.{well-shaped, write-accepted, rebuild-accepted}
-use Rattle.stripe.specs.Stripe.{covers, encoded, written, rebuilt}
-use Rattle.stripe.specs.Calls.{afterEncode, afterWrite, afterRebuild}
+use Rattle.write.specs.Write.{covers, written, afterWrite}
+use Rattle.stripe.specs.Stripe.{encoded, rebuilt}
+use Rattle.stripe.specs.Calls.{afterEncode, afterRebuild}
 use Rattle.demands.specs.Series.{Bytes}
 
 lift-bytes : (g : Geometry) (f : ℕ → Column → Column) (s : List ℕ) → ((i : ℕ) → Symbols 8 (f i (column g s i))) → Bytes (lift g f s)

@@ -20,10 +20,10 @@ use Rattle.column.specs.declared.Lost.the-variants.{One, Two}
 use Rattle.base.specs.Choice.{choose, either}
 use Rattle.column.specs.Column.{Column, roleOf, newByte, encodeColumn, writeColumn, rebuildColumn, reedSolomon}
 use Rattle.shape.specs.Layout.{column}
-use Rattle.stripe.specs.Stripe.{covers}
+use Rattle.write.specs.Write.{covers, afterWrite}
 use Rattle.base.specs.Refusal.{firstOf}
 use Rattle.shape.specs.Refusals.{library, refusal1, refusal2, refusal3, unknown, sameDevice, encodeRefusal, writeRefusal, rebuildRefusal, WellShaped}
-use Rattle.stripe.specs.Calls.{afterEncode, afterWrite, afterRebuild}
+use Rattle.stripe.specs.Calls.{afterEncode, afterRebuild}
 use Rattle.shape.proofs.Places.{by-columns}
 use Rattle.shape.proofs.Refused.{well-shaped, write-accepted, rebuild-accepted}
 use Rattle.column.proofs.Loss.{known-role}

@@ -28,8 +28,8 @@ use Rattle.shape.specs.Layout.{column}
 use Rattle.shape.specs.Refusals.{encodeRefusal, writeRefusal, rebuildRefusal, WellShaped}
 use Rattle.shape.specs.Codes.{namedRefusal}
 use Rattle.shape.proofs.Refused.{well-shaped, write-accepted, rebuild-accepted}
-use Rattle.stripe.specs.Stripe.{covers}
-use Rattle.stripe.specs.Calls.{afterWrite, afterRebuild}
+use Rattle.write.specs.Write.{covers, afterWrite}
+use Rattle.stripe.specs.Calls.{afterRebuild}
 use Rattle.demands.specs.Layout.{LawfulLayout, layoutOf}
 use Rattle.demands.specs.Series.{Bytes, EncodedStripe, none, given, valueOr, Member, Apart, GivesNothing, EverySeries}
 use Rattle.demands.specs.Members.{sets, writeMember, refusedRebuild, lose, lossMember, Allowed, write, refused, loss, AllowedFrom}

@@ -14,8 +14,8 @@ use Rattle.shape.specs.declared.Naming.{Naming}
 use Rattle.shape.specs.Layout.{column, lift}
 use Rattle.shape.specs.Refusals.{writeRefusal, rebuildRefusal}
 use Rattle.shape.specs.Codes.{namedRefusal}
-use Rattle.stripe.specs.Stripe.{covers}
-use Rattle.stripe.specs.Calls.{afterWrite, afterRebuild, rebuiltBy}
+use Rattle.write.specs.Write.{covers, afterWrite}
+use Rattle.stripe.specs.Calls.{afterRebuild, rebuiltBy}
 use Rattle.demands.specs.Layout.{layoutOf}
 use Rattle.demands.specs.Series.{Bytes, EncodedStripe, Latest, none, given, Member}
 

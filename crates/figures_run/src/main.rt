@@ -134,7 +134,7 @@ fn last_disk() -> [u8; 17] {
 
 fn written() -> [u8; 17] {
     let mut s = [0x01, 0x02, 0x04, 0x07, 0x15];
-    let result = stripe::write(Geometry { n: 3, b: 1 }, &mut s, 1, 0, b"\x80");
+    let result = write::write(Geometry { n: 3, b: 1 }, &mut s, 1, 0, b"\x80");
     if result != 0 {
         return refusal(result);
     }

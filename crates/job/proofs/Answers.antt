@@ -15,7 +15,8 @@ use Rattle.column.specs.declared.Lost.{Lost}
 use Rattle.shape.specs.declared.Naming.{Naming}
 use Rattle.shape.specs.declared.Naming.the-variants.{Loss, Wrong}
 use Rattle.base.specs.Choice.{choose}
-use Rattle.stripe.specs.Stripe.{encoded, rebuilt, verdicts, summary}
+use Rattle.stripe.specs.Stripe.{encoded, rebuilt, verdicts}
+use Rattle.verdict.specs.Summary.{summary}
 use Rattle.base.specs.Refusal.{unlessRefused}
 use Rattle.shape.proofs.Refused.{well-shaped}
 use Rattle.base.proofs.Refused.{left-alone}

@@ -12,7 +12,8 @@ use Rattle.shape.specs.declared.Naming.{Naming}
 use Rattle.shape.specs.declared.Naming.the-variants.{Loss, Wrong}
 use Rattle.column.specs.Column.{reedSolomon, encodeColumn, rebuildColumn, verdict}
 use Rattle.shape.specs.Layout.{column}
-use Rattle.stripe.specs.Stripe.{encoded, rebuilt, verdicts, summary}
+use Rattle.stripe.specs.Stripe.{encoded, rebuilt, verdicts}
+use Rattle.verdict.specs.Summary.{summary}
 use Rattle.shape.specs.Refusals.{library, shapeRefusals, lossRefusals, encodeRefusal, rebuildRefusal}
 use Rattle.stripe.specs.Calls.{afterEncode, afterRebuild, rebuiltBy}
 use Rattle.shape.proofs.Places.{length-lift}

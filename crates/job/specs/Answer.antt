@@ -9,7 +9,8 @@ use Rattle.shape.specs.declared.Geometry.{Geometry}
 use Rattle.shape.specs.declared.Naming.{Naming}
 use Rattle.shape.specs.declared.Naming.the-variants.{Loss, Wrong}
 use Rattle.base.specs.Choice.{choose}
-use Rattle.stripe.specs.Stripe.{encoded, rebuilt, verdicts, summary}
+use Rattle.stripe.specs.Stripe.{encoded, rebuilt, verdicts}
+use Rattle.verdict.specs.Summary.{summary}
 use Rattle.base.specs.Refusal.{unlessRefused}
 use Rattle.job.specs.Fields.{bigEndian, fields}
 use Rattle.job.specs.Header.{mark, commandOf, geometryOf, lossNamed, stripeOf}

@@ -89,7 +89,11 @@ fn call_refusal(g: Geometry, len: usize, command: u8, first: usize, second: usiz
     if refused != 0 {
         return refused;
     }
-    if shape::no_devices(first, second) { 0 } else { 4 }
+    if shape::no_devices(first, second) {
+        0
+    } else {
+        4
+    }
 }
 
 // ---- the answer

@@ -1,3 +1,5 @@
 pub mod Places
 pub mod Refused
 pub mod Codes
+pub mod Columns
+pub mod Stretch

@@ -32,7 +32,7 @@ module _ (g : Geometry) {i : ℕ} (hi : i < g .b) where
   within hr = digits-lt hr hi
 
 -- where the numbers have no other bits than the low ones
-pub low-start : (g : Geometry) (r : ℕ) → g .b < 4294967296 → r < 65536 → lowStart g r ≡ start g r
+pub low-start : (g : Geometry) (r : ℕ) → g .b < 4294967296 → r < 4294967296 → lowStart g r ≡ start g r
 unfolding start
 low-start g r hb hr = rw (mod-eq-of-lt hb, mod-eq-of-lt hr)
 

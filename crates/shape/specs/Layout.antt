@@ -14,9 +14,9 @@ geometry n b = record { n = n; b = b }
 unfoldable pub start : Geometry → ℕ → ℕ
 start g r = r * g .b
 
--- the same of the low 16 bits of r and the low 32 of B
+-- the same of the low 32 bits of r and of B
 abbrev pub lowStart : Geometry → ℕ → ℕ
-lowStart g r = start (geometry (g .n) (g .b % 4294967296)) (r % 65536)
+lowStart g r = start (geometry (g .n) (g .b % 4294967296)) (r % 4294967296)
 
 -- the length of the whole stripe
 abbrev pub size : Geometry → ℕ

@@ -34,12 +34,12 @@ pub enum Naming {
 }
 
 impl Geometry {
-    // Where the block of a role begins. It reads the low 32 bits of b and the low 16 of the role, so that
+    // Where the block of a role begins. It reads the low 32 bits of b and of the role, so that
     // the product fits; a stripe that the library takes has no others.
     pub fn start(self, role: usize) -> usize
         ensures { λ r. ⌜ r ≡ lowStart self role ⌝ }
     {
-        role % 65536 * (self.b % 4294967296)
+        role % 4294967296 * (self.b % 4294967296)
     }
 
     fn lacks(self, device: Device) -> bool

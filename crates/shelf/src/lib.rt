@@ -1,7 +1,8 @@
 // What the shelf's controller, written in C, calls: include/shelf.h says it in C's terms. Every
 // number is 64 bits wide, and no premise is put on the caller.
 use shape::Geometry;
-ghost use Rattle.stripe.specs.Calls.{EncodeCall, WriteCall, RebuildNamedCall};
+ghost use Rattle.stripe.specs.Calls.{EncodeCall, RebuildNamedCall};
+ghost use Rattle.write.specs.Write.{WriteCall};
 ghost use Rattle.shape.specs.Layout.{geometry};
 
 #[no_mangle]
@@ -30,7 +31,7 @@ pub extern "C" fn shelf_write(
         n: n as usize,
         b: b as usize,
     };
-    stripe::write(g, stripe, disk as usize, offset as usize, bytes)
+    write::write(g, stripe, disk as usize, offset as usize, bytes)
 }
 
 #[no_mangle]

@@ -10,7 +10,8 @@ use Rattle.shape.specs.declared.Geometry.{Geometry}
 use Rattle.shape.specs.Refusals.{checkRefusal}
 use Rattle.stripe.specs.declared.Checked.{Checked}
 use Rattle.stripe.specs.declared.Checked.the-variants.{Refused, Summary}
-use Rattle.stripe.specs.Stripe.{verdicts, summary}
+use Rattle.stripe.specs.Stripe.{verdicts}
+use Rattle.verdict.specs.Summary.{summary}
 use Rattle.stripe.specs.Calls.{numberOf, checkedOf, afterCheck, CheckCall}
 
 checked-refused : (k v : ℕ) → k ≢ 0 → checkedOf k v ≡ Refused k

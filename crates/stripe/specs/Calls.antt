@@ -11,16 +11,13 @@ use Rattle.shape.specs.Codes.{namingOf, namedRefusal}
 use Rattle.base.specs.Refusal.{unlessRefused}
 use Rattle.stripe.specs.declared.Checked.{Checked}
 use Rattle.stripe.specs.declared.Checked.the-variants.{Refused, Summary}
-use Rattle.stripe.specs.Stripe.{encoded, written, rebuilt, verdicts, summary}
-use Rattle.shape.specs.Refusals.{encodeRefusal, writeRefusal, rebuildRefusal, checkRefusal}
+use Rattle.verdict.specs.Summary.{summary}
+use Rattle.stripe.specs.Stripe.{encoded, rebuilt, verdicts}
+use Rattle.shape.specs.Refusals.{encodeRefusal, rebuildRefusal, checkRefusal}
 
 -- the stripe after a call
 unfoldable pub afterEncode : Geometry → List ℕ → List ℕ
 afterEncode g s = unlessRefused (encodeRefusal g (length s)) (encoded g s) s
-
-unfoldable pub afterWrite : Geometry → ℕ → ℕ → List ℕ → List ℕ → List ℕ
-afterWrite g disk offset new s =
-    unlessRefused (writeRefusal g (length s) disk offset (length new)) (written g disk offset new s) s
 
 unfoldable pub afterRebuild : Geometry → Lost → List ℕ → List ℕ
 afterRebuild g lost s = unlessRefused (rebuildRefusal g (length s) lost) (rebuilt g lost s) s
@@ -47,10 +44,6 @@ checkedOf (suc k) v = Refused (suc k)
 pub record EncodeCall (g : Geometry) (before : List ℕ) (r : ℕ) (after : List ℕ) : Type 0 where
   pub result : r ≡ encodeRefusal g (length before)
   pub stripe : after ≡ afterEncode g before
-
-pub record WriteCall (g : Geometry) (disk offset : ℕ) (new before : List ℕ) (r : ℕ) (after : List ℕ) : Type 0 where
-  pub result : r ≡ writeRefusal g (length before) disk offset (length new)
-  pub stripe : after ≡ afterWrite g disk offset new before
 
 pub record RebuildCall (g : Geometry) (lost : Lost) (before : List ℕ) (r : ℕ) (after : List ℕ) : Type 0 where
   pub result : r ≡ rebuildRefusal g (length before) lost

@@ -6,14 +6,15 @@ use borrow.Author.Needs.{needs}
 use lib.ListN.{getD}
 use Rattle.gf256.specs.Field.{sum}
 use Rattle.base.proofs.Fill.{Filled, fill-none, fill-more, fill-all}
+use Rattle.chunk.specs.Chunk.{width}
 use Rattle.chunk.proofs.add.Statement.{statement}
 use Rattle.chunk.proofs.add.Tie as tie
 
 abbrev Inv-loop : tie.InvT-loop
-Inv-loop a₀ d j₀ a j = (j ≤ 64) × Filled (λ j v. sum v (getD d j 0)) 64 a₀ a j
+Inv-loop a₀ d j₀ a j = (j ≤ width) × Filled (λ j v. sum v (getD d j 0)) width a₀ a j
 
 abbrev μ-loop : tie.MeasureT-loop
-μ-loop a₀ d j₀ a j = 64 - j
+μ-loop a₀ d j₀ a j = width - j
 
 loop-holds : tie.Need-loop-holds Inv-loop μ-loop
 loop-holds c = (omega arith, fill-none (c .-a2 .given .0))

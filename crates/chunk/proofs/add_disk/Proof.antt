@@ -7,17 +7,18 @@ use borrow.Author.Needs.{needs}
 use lib.ListN.{getD}
 use Rattle.gf256.specs.Field.{sum, double}
 use Rattle.base.proofs.Fill.{Filled, fill-none, fill-more, fill-all}
+use Rattle.chunk.specs.Chunk.{width}
 use Rattle.chunk.proofs.add_disk.Statement.{statement}
 use Rattle.chunk.proofs.add_disk.Tie as tie
 
 abbrev Inv-loop : tie.InvT-loop
 Inv-loop p₀ q₀ d i₀ p q i =
-    (i ≤ 64)
-    × Filled (λ j v. sum v (getD d j 0)) 64 p₀ p i
-    × Filled (λ j v. sum (double v) (getD d j 0)) 64 q₀ q i
+    (i ≤ width)
+    × Filled (λ j v. sum v (getD d j 0)) width p₀ p i
+    × Filled (λ j v. sum (double v) (getD d j 0)) width q₀ q i
 
 abbrev μ-loop : tie.MeasureT-loop
-μ-loop p₀ q₀ d i₀ p q i = 64 - i
+μ-loop p₀ q₀ d i₀ p q i = width - i
 
 loop-holds : tie.Need-loop-holds Inv-loop μ-loop
 loop-holds c = (omega arith, fill-none (c .before .before .-p2 .given .0), fill-none (c .-q2 .given .0))

@@ -9,19 +9,20 @@ use borrow.Author.Needs.{needs, elem-fits}
 use lib.ListN.{length, getD}
 use Rattle.gf256.specs.Field.{sum, double, product}
 use Rattle.base.proofs.Table.{length-tabulate, getD-tabulate, is-tabulate}
+use Rattle.chunk.specs.Chunk.{width}
 use Rattle.chunk.proofs.Digits.{double-lt, no-digit, even-digit, odd-digit}
 use Rattle.chunk.proofs.add_product.Statement.{statement}
 use Rattle.chunk.proofs.add_product.Tie as tie
 
 abbrev Inv-loop : tie.InvT-loop
-Inv-loop a₀ c c₀ x₀ a c' x =
-    (c' < 256)
-    × (length a ≡ 64)
-    × ((j : ℕ) → j < 64 → getD x j 0 < 256)
-    × ((j : ℕ) → j < 64 → sum (getD a j 0) (product c' (getD x j 0)) ≡ sum (getD a₀ j 0) (product c (getD x₀ j 0)))
+Inv-loop a₀ c₀ x₀ a c x =
+    (c < 256)
+    × (length a ≡ width)
+    × ((j : ℕ) → j < width → getD x j 0 < 256)
+    × ((j : ℕ) → j < width → sum (getD a j 0) (product c (getD x j 0)) ≡ sum (getD a₀ j 0) (product c₀ (getD x₀ j 0)))
 
 abbrev μ-loop : tie.MeasureT-loop
-μ-loop a₀ c c₀ x₀ a c' x = c'
+μ-loop a₀ c₀ x₀ a c x = c
 
 loop-holds : tie.Need-loop-holds Inv-loop μ-loop
 loop-holds c =
@@ -40,8 +41,8 @@ loop-less c = omega arith
 -- after the lowest digit of c, at every place
 digit : (c : tie.Joined1 Inv-loop μ-loop)
     → let l = c .before .before .loop in
-    (length (c .if1 .a) ≡ 64)
-    × ((j : ℕ) → j < 64
+    (length (c .if1 .a) ≡ width)
+    × ((j : ℕ) → j < width
     → sum (getD (c .if1 .a) j 0) (product (l .c / 2) (double (getD (l .x) j 0))) ≡ sum (getD (l .a) j 0) (product (l .c) (getD (l .x) j 0)))
 digit c =
     let l = c .before .before .loop in
@@ -67,7 +68,7 @@ loop-again c =
 returns : tie.Need-returns Inv-loop μ-loop
 returns c =
     let l = c .before .loop in
-    is-tabulate 64 _ (l .a) (l .inv .1)
+    is-tabulate width _ (l .a) (l .inv .1)
     (λ j p. sym (no-digit (getD (l .a) j 0) (getD (l .x) j 0) (c .loop-test .left)) ∙ l .inv .3 j p)
 
 pub add-product-spec : {M : Type 1} → statement M

@@ -5,16 +5,16 @@ use Prim.Native.Nat.{ℕ, _-_, _≤_}
 use native.Mathlib.Numerals.{add-one}
 use native.Mathlib.Omega.{arith}
 use lib.Dec.{eqb}
-use Rattle.chunk.specs.Chunk.{zeros}
+use Rattle.chunk.specs.Chunk.{width, zeros}
 use Rattle.chunk.proofs.Zeros.{zeros-more}
 use Rattle.chunk.proofs.are_zero.Statement.{statement}
 use Rattle.chunk.proofs.are_zero.Tie as tie
 
 abbrev Inv-loop : tie.InvT-loop
-Inv-loop p q r₀ j₀ r j = (j ≤ 64) × (eqb r 0 ≡ zeros j p q)
+Inv-loop p q r₀ j₀ r j = (j ≤ width) × (eqb r 0 ≡ zeros j p q)
 
 abbrev μ-loop : tie.MeasureT-loop
-μ-loop p q r₀ j₀ r j = 64 - j
+μ-loop p q r₀ j₀ r j = width - j
 
 loop-holds : tie.Need-loop-holds Inv-loop μ-loop
 loop-holds c = (omega arith, unfold zeros in refl)

@@ -5,14 +5,15 @@ use native.Mathlib.Omega.{arith}
 use borrow.Author.Needs.{needs}
 use Rattle.gf256.specs.Field.{double}
 use Rattle.base.proofs.Fill.{Filled, fill-none, fill-more, fill-all}
+use Rattle.chunk.specs.Chunk.{width}
 use Rattle.chunk.proofs.double.Statement.{statement}
 use Rattle.chunk.proofs.double.Tie as tie
 
 abbrev Inv-loop : tie.InvT-loop
-Inv-loop x₀ j₀ x j = (j ≤ 64) × Filled (λ j v. double v) 64 x₀ x j
+Inv-loop x₀ j₀ x j = (j ≤ width) × Filled (λ j v. double v) width x₀ x j
 
 abbrev μ-loop : tie.MeasureT-loop
-μ-loop x₀ j₀ x j = 64 - j
+μ-loop x₀ j₀ x j = width - j
 
 loop-holds : tie.Need-loop-holds Inv-loop μ-loop
 loop-holds c = (omega arith, fill-none (c .-x2 .given .0))

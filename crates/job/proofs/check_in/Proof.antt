@@ -10,7 +10,8 @@ use lib.ListN.{length, take}
 use Rattle.stripe.specs.declared.Checked.the-variants.{Summary}
 use Rattle.stripe.specs.Calls.{checkedOf, afterCheck}
 use Rattle.shape.specs.Refusals.{library, shapeRefusals, refusal7, checkRefusal}
-use Rattle.stripe.specs.Stripe.{verdicts, summary}
+use Rattle.stripe.specs.Stripe.{verdicts}
+use Rattle.verdict.specs.Summary.{summary}
 use Rattle.base.proofs.Refused.{first-passed, left-done}
 use Rattle.job.specs.Fields.{bigEndian, fields}
 use Rattle.job.proofs.Fielded.{set-two}

@@ -29,7 +29,7 @@ returns-2 : tie.Need-returns-2
 returns-2 c =
     let a = c .before .before .before .before .before .before .before .before .args in
     let found = c .before .before .check-columns .ensures in
-    check-done (a .g) (a .stripe .now) (a .verdicts .now) _ _ (c .before .before .before .before .before .check-refusal .ensures) (c .before .before .before .before .if1 .left) (found .0) (found .1)
+    check-done (a .g) (a .stripe .now) (a .verdicts .now) _ _ (c .before .before .before .before .before .check-refusal .ensures) (c .before .before .before .before .if1 .left) (found .result) (found .room)
 
 pub check-spec : {M : Type 1} → statement M
 check-spec =

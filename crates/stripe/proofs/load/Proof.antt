@@ -1,26 +1,28 @@
--- `stripe::load` meets its contract: the 64 bytes lie within the role's block.
+-- `stripe::load` meets its contract: the bytes lie within the role's block.
 -- Assumes nothing.
+use borrow.Author.Needs.{needs}
 use mathlib.Core.Path.{_≡_, ap, _∙_}
 use mathlib.Core.List.{List}
-use Prim.Native.Nat.{ℕ, _+_, _-_, _≤_}
+use Prim.Native.Nat.{ℕ, _+_, _≤_}
 use native.Mathlib.Omega.{arith}
-use borrow.Author.Needs.{needs}
-use lib.ListN.{length, getD, drop}
-use lib.Seq.{getD-take, getD-drop}
-use Rattle.stripe.proofs.Inside.{block-start, stretch-inside}
+use lib.ListN.{length, getD}
+use Rattle.chunk.proofs.Laws.{each-at}
 use Rattle.shape.specs.Layout.{start}
+use Rattle.shape.proofs.Stretch.{block-start, stretch-inside, part-at}
 use Rattle.stripe.proofs.load.Statement.{statement}
 use Rattle.stripe.proofs.load.Tie as tie
 
-begins : (c : tie.After-start) → c .start .result ≡ start (c .before .before .args .g) (c .before .before .args .role)
+begins : (c : tie.After-start) → let a = c .before .before .args in c .start .result ≡ start (a .g) (a .role)
 begins c =
     let here = c .before .before in
-    block-start (here .args .g) (here .args .role) (here .pre .0 .disks) (here .pre .0 .block) (here .pre .2) (c .start .ensures)
+    let a = here .args in
+    block-start (a .g) (a .stripe .now) (a .role) (here .pre .0) (here .pre .1 .known) (c .start .ensures)
 
-inside : (c : tie.After-start) → c .start .result + c .before .before .args .i + 64 ≤ length (c .before .before .args .stripe .now)
+inside : (c : tie.After-start) → let a = c .before .before .args in c .start .result + a .i + a .w ≤ length (a .stripe .now)
 inside c =
     let here = c .before .before in
-    stretch-inside (here .args .g) (here .args .stripe .now) (here .args .role) (here .args .i) 64 (c .start .result) (here .pre .0) (record { known = here .pre .2; fits = here .pre .1 }) (begins c)
+    let a = here .args in
+    omega (arith, begins c, stretch-inside (a .g) (a .stripe .now) (a .role) (a .i) (here .pre .0) (here .pre .1))
 
 start-requires : tie.Need-start-requires
 start-requires c κs = search needs
@@ -28,29 +30,29 @@ start-requires c κs = search needs
 add-at : tie.Need-add-at
 add-at c = let in-stripe = inside c in omega arith
 
-add-chunk-of : tie.Need-add-chunk-of
-add-chunk-of c = let in-stripe = inside c in omega arith
+add-load : tie.Need-add-load
+add-load c = let in-stripe = inside c in omega arith
 
-sub-chunk-of : tie.Need-sub-chunk-of
-sub-chunk-of c = search needs
+sub-load : tie.Need-sub-load
+sub-load c = search needs
 
-part-chunk-of-start : tie.Need-part-chunk-of-start
-part-chunk-of-start c = search needs
+part-load-start : tie.Need-part-load-start
+part-load-start c = search needs
 
-part-chunk-of-end : tie.Need-part-chunk-of-end
-part-chunk-of-end c = inside c
+part-load-end : tie.Need-part-load-end
+part-load-end c = inside c
 
-chunk-of-requires : tie.Need-chunk-of-requires
-chunk-of-requires c κs = search needs
+load-requires : tie.Need-load-requires
+load-requires c κs = search needs
 
 returns : tie.Need-returns
-returns c j p =
-    let a = c .before .before .before .before .args in
-    let at = c .before .before .start .result + a .i in
-    ap (λ (l : List ℕ). getD l j 0) (c .chunk-of .ensures)
-    ∙ getD-take (at + 64 - at) (drop at (a .stripe .now)) j 0 (omega arith)
-    ∙ getD-drop at (a .stripe .now) j 0
-    ∙ ap (λ (k : ℕ). getD (a .stripe .now) k 0) (omega (arith, begins (c .before .before)))
+returns c =
+    λ j p.
+    let here = c .before .before .before .before in
+    let a = here .args in
+    ap (λ (l : List ℕ). getD l j 0) (c .load .ensures)
+    ∙ each-at _ j (omega (arith, here .pre .2))
+    ∙ part-at (a .g) (a .stripe .now) (a .role) (a .i) (a .w) (begins (c .before .before)) j p
 
 pub load-spec : {M : Type 1} → statement M
 load-spec =
@@ -58,9 +60,9 @@ load-spec =
     (tie.spec
     start-requires
     add-at
-    add-chunk-of
-    sub-chunk-of
-    part-chunk-of-start
-    part-chunk-of-end
-    chunk-of-requires
+    add-load
+    sub-load
+    part-load-start
+    part-load-end
+    load-requires
     returns)

@@ -1,14 +1,31 @@
--- `stripe::rebuild` meets its contract: its refusal, then the lost devices are restored.
+-- `stripe::rebuild` meets its contract: its refusal, then the plan of the loss, which is the table's row.
 -- Assumes nothing.
 use borrow.Author.Needs.{needs}
-use mathlib.Core.Path.{sym, _∙_}
+use mathlib.Core.Path.{sym, ap, _∙_}
+use Prim.Native.Nat.{ℕ, _%_}
+use native.Mathlib.Nat.{mod-eq-of-lt}
+use native.Mathlib.Omega.{arith}
 use lib.ListN.{length}
 use Rattle.base.proofs.Refused.{leaves-alone, leaves-done}
+use Rattle.column.specs.Loss.{KnownLoss}
+use Rattle.losses.specs.declared.Plan.{Plan}
+use Rattle.losses.specs.Losses.{planOf, restoredBy}
+use Rattle.losses.proofs.Planned.{planned}
+use Rattle.shape.specs.Layout.{lift}
+use Rattle.shape.specs.Refusals.{WellShaped}
+use Rattle.shape.proofs.Places.{lift-same}
 use Rattle.shape.proofs.Refused.{well-shaped, rebuild-accepted}
 use Rattle.stripe.specs.Stripe.{rebuilt}
 use Rattle.stripe.specs.Calls.{afterRebuild}
 use Rattle.stripe.proofs.rebuild.Statement.{statement}
 use Rattle.stripe.proofs.rebuild.Tie as tie
+
+-- what the refusal tells where it is 0
+accepted : (c : tie.Else1) → let a = c .before .before .before .args in WellShaped (a .g) (a .stripe .now) × KnownLoss (a .g .n) (a .lost)
+accepted c =
+    let a = c .before .before .before .args in
+    let told = rebuild-accepted (a .g) (length (a .stripe .now)) (a .lost) (sym (c .before .rebuild-refusal .ensures) ∙ c .if1 .left) in
+    (well-shaped (a .g) (a .stripe .now) (told .0), told .1)
 
 rebuild-refusal-requires : tie.Need-rebuild-refusal-requires
 rebuild-refusal-requires c κs = search needs
@@ -20,11 +37,11 @@ returns c =
     let refused = c .before .rebuild-refusal .ensures in
     record { result = refused; stripe = leaves-alone (rebuilt (a .g) (a .lost) (a .stripe .now)) (a .stripe .now) refused (c .if1 .taken) }
 
-restore-lost-requires : tie.Need-restore-lost-requires
-restore-lost-requires c κs =
-    let a = c .before .before .before .before .args in
-    let accepted = rebuild-accepted (a .g) (length (a .stripe .now)) (a .lost) (sym (c .before .before .rebuild-refusal .ensures) ∙ c .before .if1 .left) in
-    (well-shaped (a .g) (a .stripe .now) (accepted .0), accepted .1)
+plan-of-requires : tie.Need-plan-of-requires
+plan-of-requires c κs = search needs
+
+restore-requires : tie.Need-restore-requires
+restore-requires c κs = accepted (c .before .before) .0
 
 same-length : tie.Need-same-length
 same-length c = search needs
@@ -32,12 +49,27 @@ same-length c = search needs
 returns-2 : tie.Need-returns-2
 unfolding afterRebuild
 returns-2 c =
-    let a = c .before .before .before .before .before .before .before .args in
-    let refused = c .before .before .before .before .before .rebuild-refusal .ensures in
-    let done = c .before .before .before .before .if1 .left in
-    record { result = sym done ∙ refused; stripe = leaves-done (rebuilt (a .g) (a .lost) (a .stripe .now)) (a .stripe .now) refused done (c .before .before .restore-lost .ensures) }
+    let a = c .before .before .before .before .before .before .before .before .args in
+    let ask = accepted (c .before .before .before .before .before) in
+    let refused = c .before .before .before .before .before .before .rebuild-refusal .ensures in
+    let done = c .before .before .before .before .before .if1 .left in
+    let plan = c .before .before .before .plan-of .ensures ∙ ap (λ (n : ℕ). planOf n (a .lost)) (mod-eq-of-lt (omega (arith, ask .0 .disks))) in
+    record {
+      result = sym done ∙ refused;
+      stripe =
+          leaves-done (rebuilt (a .g) (a .lost) (a .stripe .now)) (a .stripe .now) refused done
+          (c .before .before .restore .ensures
+          ∙ ap (λ (p : Plan). lift (a .g) (λ i e. restoredBy (a .g .n) p e) (a .stripe .now)) plan
+          ∙ lift-same (a .g) (a .stripe .now) (planned (a .g .n) (a .lost) (ask .1)));
+    }
 
 pub rebuild-spec : {M : Type 1} → statement M
 rebuild-spec =
     tie.close
-    (tie.spec rebuild-refusal-requires returns restore-lost-requires same-length returns-2)
+    (tie.spec
+    rebuild-refusal-requires
+    returns
+    plan-of-requires
+    restore-requires
+    same-length
+    returns-2)

@@ -1,4 +1,4 @@
--- `shape::Geometry::start` meets its contract: 16 bits times 32 bits fit.
+-- `shape::Geometry::start` meets its contract: 32 bits times 32 bits fit.
 -- Assumes nothing.
 use mathlib.Core.Path.{refl}
 use native.Mathlib.Nat.{mul-le-mul}
@@ -11,7 +11,7 @@ use Rattle.shape.proofs.Geometry.start.Tie as tie
 mul-result : tie.Need-mul-result
 mul-result c =
     let a = c .before .args in
-    omega (arith, mul-le-mul {n₁ = a .role % 65536} {m₁ = a .self .b % 4294967296} {n₂ = 65535} {m₂ = 4294967295} (omega arith) (omega arith))
+    omega (arith, mul-le-mul {n₁ = a .role % 4294967296} {m₁ = a .self .b % 4294967296} {n₂ = 4294967295} {m₂ = 4294967295} (omega arith) (omega arith))
 
 returns : tie.Need-returns
 unfolding start

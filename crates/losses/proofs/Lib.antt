@@ -1,0 +1,2 @@
+pub mod Emptied
+pub mod Planned
