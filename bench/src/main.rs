@@ -80,7 +80,7 @@ fn verify(random: &mut Random, mut stripe: Stripe, isal: Option<isal::Call>, lin
     // the parities are noise here
     verify_check(stripe);
     let (first, second) = two_disks(stripe.n);
-    for (first, second) in [(first, second), (first, NONE), (P, NONE), (Q, NONE)] {
+    for (first, second) in [(first, second), (first, NONE), (P, NONE), (Q, NONE), (first, P), (first, Q)] {
         let mut wanted = stripe.bytes().to_vec();
         // a stripe of one data disk can't lose two
         if stripe::rebuild(n, b, &mut wanted, first, second) == 0 {

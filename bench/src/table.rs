@@ -4,7 +4,7 @@ use crate::isal::Isal;
 use crate::linux::Linux;
 use crate::measure::{best, TURN, TURNS};
 use crate::shelf::{Stripe, BLOCK};
-use crate::{plain, processor, two_disks, verify};
+use crate::{plain, processor, two_disks, verify, verify_check};
 use outside::random::Random;
 use outside::stripe::{NONE, P, Q};
 use std::cell::Cell;
@@ -13,13 +13,23 @@ const PLAIN: &str = "plain Rust encode";
 const GENERATE: &str = "pq_gen_sse";
 const CHECK: &str = "pq_check_sse";
 const DATA2: &str = "Linux data2";
+const CLEAN: &str = "check of a clean stripe";
+const TWO: &str = "rebuild of two data disks";
+const WRITE: &str = "write of 4,096 bytes, last data disk";
+
+/// A block that ends in a part of a chunk.
+const ODD: usize = BLOCK - 1;
 
 /// What a call's rate is to be: at least so much of another's.
 enum Target {
-    /// A peer's, at the same n and B.
+    /// A peer's or another call's, at the same n and B.
     Of(f64, &'static str),
     /// The library's own encode at n = 8, B = 4,096.
     Own(f64),
+    /// None: its ratio to another call is only said.
+    Beside(&'static str),
+    /// None: it is measured alone.
+    Alone,
     /// None: the call is itself a peer.
     Peer,
 }
@@ -28,6 +38,8 @@ struct Row {
     call: &'static str,
     n: usize,
     b: usize,
+    /// The bytes of data that the rate counts.
+    data: usize,
     target: Target,
     run: Box<dyn Fn()>,
     /// How long a call takes, once it is measured.
@@ -35,10 +47,31 @@ struct Row {
 }
 
 impl Row {
-    /// Bytes of the stripe's data in a second. A write counts them all too, so that its ratio is that of the times.
     fn rate(&self) -> f64 {
-        (self.n * self.b) as f64 / self.seconds
+        self.data as f64 / self.seconds
     }
+}
+
+/// A write of the last data disk from its start. A write of what stands there already would change nothing, so two
+/// contents take turns.
+fn write(random: &mut Random, stripe: Stripe, count: usize) -> Box<dyn Fn()> {
+    let contents = [random.bytes(count), random.bytes(count)];
+    let turn = Cell::new(0);
+    Box::new(move || {
+        turn.set(1 - turn.get());
+        stripe.write(stripe.n as u64 - 1, &contents[turn.get()]);
+    })
+}
+
+/// An encoded stripe but for one byte in every 64 columns.
+fn spoiled(random: &mut Random, n: usize, b: usize) -> Stripe {
+    let mut stripe = Stripe::random(random, n, b);
+    stripe.encode();
+    for at in (0..b).step_by(64) {
+        stripe.bytes()[at] ^= 0x40;
+    }
+    verify_check(stripe);
+    stripe
 }
 
 /// The rows of one shape, over one stripe, each found right.
@@ -50,33 +83,38 @@ fn rows(random: &mut Random, isal: Option<Isal>, linux: Option<Linux>, n: usize,
     let (first, second) = two_disks(n);
 
     let mut rows = vec![];
-    let mut add = |call, target, run| rows.push(Row { call, n, b, target, run, seconds: f64::NAN });
-    let whole = if b == BLOCK { Target::Of(0.95, GENERATE) } else { Target::Own(0.9) };
-    add("encode", whole, Box::new(move || stripe.encode()));
-    if b == BLOCK {
-        add("check of a clean stripe", Target::Of(0.6, CHECK), Box::new(move || assert_eq!(stripe.check(), 0)));
-        add("rebuild of two data disks", Target::Of(1.0, DATA2), Box::new(move || stripe.rebuild(first, second)));
-    }
+    let data = n * b;
+    let mut add = |call, data, target, run| rows.push(Row { call, n, b, data, target, run, seconds: f64::NAN });
+    let whole = match b {
+        BLOCK => Target::Of(1.0, GENERATE),
+        ODD => Target::Own(0.9),
+        _ => Target::Alone,
+    };
+    add("encode", data, whole, Box::new(move || stripe.encode()));
+    let clean = if b == BLOCK { Target::Of(0.6, CHECK) } else { Target::Alone };
+    add(CLEAN, data, clean, Box::new(move || assert_eq!(stripe.check(), 0)));
+    let two = if b == BLOCK { Target::Of(1.0, DATA2) } else { Target::Alone };
+    add(TWO, data, two, Box::new(move || stripe.rebuild(first, second)));
     if (n, b) == (8, BLOCK) {
-        for (call, device) in [("rebuild of one data disk", first), ("rebuild of P", P), ("rebuild of Q", Q)] {
-            add(call, Target::Own(0.8), Box::new(move || stripe.rebuild(device, NONE)));
+        for (call, device, least) in [("rebuild of one data disk", first, 1.3), ("rebuild of P", P, 1.3), ("rebuild of Q", Q, 0.8)] {
+            add(call, data, Target::Own(least), Box::new(move || stripe.rebuild(device, NONE)));
         }
-        // a write of what stands there already would change nothing, so two contents take turns
-        let contents = [random.bytes(b), random.bytes(b)];
-        let turn = Cell::new(0);
-        let write = move || {
-            turn.set(1 - turn.get());
-            stripe.write(n as u64 - 1, &contents[turn.get()]);
-        };
-        add("write of 4,096 bytes, last data disk", Target::Own(1.0), Box::new(write));
+        for (call, parity) in [("rebuild of data and P", P), ("rebuild of data and Q", Q)] {
+            add(call, data, Target::Of(1.0, TWO), Box::new(move || stripe.rebuild(first, parity)));
+        }
+        add(WRITE, data, Target::Own(1.0), write(random, stripe, b));
+        add("write of 512 bytes", data / 8, Target::Of(0.7, WRITE), write(random, stripe, 512));
+        add("write of 50 bytes", data * 50 / b, Target::Beside(WRITE), write(random, stripe, 50));
+        let stripe = spoiled(random, n, b);
+        add("check, a wrong byte in every chunk", data, Target::Beside(CLEAN), Box::new(move || assert_ne!(stripe.check(), 0)));
     }
-    add(PLAIN, Target::Peer, Box::new(move || plain::encode(n, b, { stripe }.bytes())));
+    add(PLAIN, data, Target::Peer, Box::new(move || plain::encode(n, b, { stripe }.bytes())));
     if let Some(call) = isal {
-        add(GENERATE, Target::Peer, Box::new(move || call.encode()));
-        add(CHECK, Target::Peer, Box::new(move || assert!(call.finds_clean())));
+        add(GENERATE, data, Target::Peer, Box::new(move || call.encode()));
+        add(CHECK, data, Target::Peer, Box::new(move || assert!(call.finds_clean())));
     }
     if let Some(call) = linux {
-        add(DATA2, Target::Peer, Box::new(move || call.rebuild(first, second)));
+        add(DATA2, data, Target::Peer, Box::new(move || call.rebuild(first, second)));
     }
     rows
 }
@@ -92,15 +130,15 @@ fn shown(ratio: Option<f64>) -> String {
 
 pub fn print(isal: Option<Isal>, linux: Option<Linux>) {
     let mut random = Random::new(1);
-    let shapes = [(8, BLOCK), (8, BLOCK - 1), (16, BLOCK), (255, BLOCK)];
+    let shapes = [(8, BLOCK), (8, ODD), (8, 100), (8, 32), (16, BLOCK), (16, 32), (255, BLOCK)];
     let mut rows: Vec<Row> = shapes.into_iter().flat_map(|(n, b)| rows(&mut random, isal, linux, n, b)).collect();
     let seconds = best(TURNS, &rows.iter().map(|row| &*row.run).collect::<Vec<_>>());
     for (row, seconds) in rows.iter_mut().zip(seconds) {
         row.seconds = seconds;
     }
-    // the calls in the order in which they were measured first, each over n, and odd blocks last
+    // the calls in the order in which they were measured first, each over B and n, whole blocks first
     let order: Vec<&str> = rows.iter().map(|row| row.call).collect();
-    rows.sort_by_key(|row| (order.iter().position(|&call| call == row.call), row.b != BLOCK, row.n));
+    rows.sort_by_key(|row| (order.iter().position(|&call| call == row.call), BLOCK - row.b, row.n));
     let row = |call: &str, n: usize, b: usize| rows.iter().find(|row| (row.call, row.n, row.b) == (call, n, b));
 
     println!("Processor: {}. One thread; best of {TURNS} turns of {} ms, the calls taking turns.", processor(), TURN * 1000.0);
@@ -116,29 +154,37 @@ pub fn print(isal: Option<Isal>, linux: Option<Linux>) {
     let (mut enough, mut compared) = (0, 0);
     for r in &rows {
         let (least, other, of) = match r.target {
-            Target::Of(least, peer) => (least, row(peer, r.n, r.b), peer),
-            Target::Own(least) => (least, row("encode", 8, BLOCK), "encode at n = 8, B = 4096"),
+            Target::Of(least, peer) => (Some(least), row(peer, r.n, r.b), peer),
+            Target::Own(least) => (Some(least), row("encode", 8, BLOCK), "encode at n = 8, B = 4096"),
+            Target::Beside(call) => (None, row(call, r.n, r.b), call),
+            Target::Alone => (None, None, ""),
             Target::Peer => continue,
         };
         let reached = ratio(r, other);
-        let answer = match reached.map(|reached| reached >= least) {
-            Some(true) => "yes",
-            Some(false) => "no",
-            None => "-",
+        let answer = match (reached, least) {
+            (Some(reached), Some(least)) if reached >= least => "yes",
+            (Some(_), Some(_)) => "no",
+            _ => "-",
+        };
+        let wanted = match least {
+            Some(least) => format!("{least:.2} of {of}"),
+            None if other.is_some() => format!("said, of {of}"),
+            None => "-".to_string(),
         };
         enough += usize::from(answer == "yes");
         compared += usize::from(answer != "-");
         let [plain, generate] = [PLAIN, GENERATE].map(|peer| shown(ratio(r, row(peer, r.n, r.b))));
-        print!("| {} | {} | {} | {:.2} | {:.0} ", r.call, r.n, r.b, r.seconds * 1e6, r.rate() / 1e6);
-        println!("| {plain} | {generate} | {least:.2} of {of} | {} | {answer} |", shown(reached));
+        print!("| {} | {} | {} | {:.3} | {:.0} ", r.call, r.n, r.b, r.seconds * 1e6, r.rate() / 1e6);
+        println!("| {plain} | {generate} | {wanted} | {} | {answer} |", shown(reached));
     }
     println!();
     println!("| peer | n | B | microseconds | MB/s of data |");
     println!("|---|---|---|---|---|");
     for r in rows.iter().filter(|row| matches!(row.target, Target::Peer)) {
-        println!("| {} | {} | {} | {:.2} | {:.0} |", r.call, r.n, r.b, r.seconds * 1e6, r.rate() / 1e6);
+        println!("| {} | {} | {} | {:.3} | {:.0} |", r.call, r.n, r.b, r.seconds * 1e6, r.rate() / 1e6);
     }
     println!();
-    println!("A call's data are n * B bytes, for a write too, so that its ratio is that of the times; 1 MB is 1,000,000 bytes.");
+    println!("A call's data are n * B bytes, for a write of a block too, so that its ratio is that of the times; a write of less has");
+    println!("its share of them. 1 MB is 1,000,000 bytes.");
     println!("Of the {compared} rows that could be compared, {enough} reach what is wanted.");
 }
