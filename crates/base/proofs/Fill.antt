@@ -70,7 +70,3 @@ module _ {f : ℕ → ℕ → ℕ} {n : ℕ} {s : List ℕ} where
 
   pub fill-all : {t : List ℕ} {k : ℕ} → Filled f n s t k → n ≤ k → t ≡ tabulate n (λ j. f j (getD s j 0))
   fill-all fill h = fill-rest fill (λ j p q. absurd (omega arith))
-
--- where the new numbers do not depend on the old ones, a second loop goes on from what the first has filled
-pub fill-again : {h : ℕ → ℕ} {n : ℕ} {s t : List ℕ} {k : ℕ} → Filled (λ j v. h j) n s t k → Filled (λ j v. h j) n t t k
-fill-again fill = record { long = fill .long; new = fill .new; old = λ j p. refl }

@@ -5,13 +5,10 @@ use mathlib.Core.Logic.{_≢_}
 use mathlib.Core.List.{List}
 use Prim.Native.Nat.{ℕ, suc, _+_, _/_, _%_, _≤_, _<_}
 use native.Mathlib.Nat.{div-add-mod', mod-lt, mod-eq-of-lt, div-lt-iff-lt-mul, suc-mul, mul-le-mul-right}
-use native.Mathlib.Omega.{arith}
-use native.Mathlib.Decide.{decLt}
 use lib.Arith.{digits-div, digits-mod, digits-lt}
-use lib.ListN.{length, getD, set, List·getD-eq-default}
+use lib.ListN.{length, getD, set}
 use lib.Seq.{ext-getD, getD-set-same, getD-set-other}
 use Rattle.shape.specs.declared.Geometry.{Geometry}
-use Rattle.base.specs.Table.{tabulate}
 use Rattle.base.proofs.Table.{length-tabulate, getD-tabulate}
 use Rattle.column.specs.Column.{Column, put}
 use Rattle.shape.specs.Layout.{start, lowStart, size, column, roleAt, columnAt, lift}
@@ -82,23 +79,6 @@ lift-at g f s len {i} {r} hi hr =
 -- functions that are the same on every column are so lifted
 pub lift-same : (g : Geometry) {f h : Column → Column} (s : List ℕ) → ((c : Column) → f c ≡ h c) → lift g (λ i. f) s ≡ lift g (λ i. h) s
 lift-same g s same = ap (λ (f : Column → Column). lift g (λ i. f) s) (fun-ext same)
-
--- a function lifted onto one that leaves what is past the last role
-pub lift-lift : (g : Geometry) (f h : ℕ → Column → Column) (s : List ℕ) → 0 < g .b → length s ≡ size g
-    → ((i : ℕ) (c : Column) (r : ℕ) → g .n + 2 ≤ r → h i c r ≡ c r)
-    → lift g f (lift g h s) ≡ lift g (λ i c. f i (h i c)) s
-unfolding lift columnAt start
-lift-lift g f h s pos len idle =
-    ap₂ tabulate (length-lift g h s)
-    (fun-ext λ j. ap (λ (c : Column). f (columnAt g j) c (roleAt g j)) (fun-ext λ r. at (mod-lt j pos) (decLt r (g .n + 2))))
-  where
-    at : {i r : ℕ} → i < g .b → Dec (r < g .n + 2) → column g (lift g h s) i r ≡ h i (column g s i) r
-    at hi (yes hr) = lift-at g h s len hi hr
-    at {i} {r} hi (no p) =
-        let past : g .n + 2 ≤ r = omega arith in
-        let beyond : length s ≤ start g r + i = omega (arith, start-mono g past) in
-        List·getD-eq-default (lift g h s) 0 (subst (λ (n : ℕ). n ≤ start g r + i) (sym (length-lift g h s)) beyond)
-        ∙ sym (idle i (column g s i) r past ∙ List·getD-eq-default s 0 beyond)
 
 -- two stripes are the same where all their columns are
 pub by-columns : (g : Geometry) → 0 < g .b → (s t : List ℕ) → length s ≡ size g → length t ≡ size g

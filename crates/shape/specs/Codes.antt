@@ -2,10 +2,10 @@
 -- of none means one lost.
 use Prim.Native.Nat.{ℕ}
 use mathlib.Core.Bool.{Bool, true, false}
-use mathlib.Core.List.{List, [], _∷_}
+use mathlib.Core.List.{[], _∷_}
 use lib.Dec.{eqb, ltb}
 use Rattle.base.specs.Choice.{choose, both}
-use Rattle.base.specs.Refusal.{Refusal, firstOf}
+use Rattle.base.specs.Refusal.{firstOf}
 use Rattle.column.specs.declared.Device.the-variants.{Data, P, Q}
 use Rattle.column.specs.declared.Lost.the-variants.{One, Two}
 use Rattle.shape.specs.declared.Geometry.{Geometry}

@@ -1,12 +1,11 @@
 -- A stretch of columns that is changed, and the others not, is the write's definition.
 -- Assumes nothing.
-use mathlib.Core.Path.{_≡_, sym, ap, subst, _∙_}
+use mathlib.Core.Path.{_≡_, subst}
 use mathlib.Core.Logic.{inl, inr, ⊎-elim}
 use mathlib.Core.List.{List}
 use Prim.Native.Nat.{ℕ, _+_, _-_, _≤_, _<_}
 use native.Mathlib.Omega.{arith}
 use borrow.Author.Tests.{lt-ltb, le-ltb, le-leb, lt-leb}
-use lib.ListN.{length, getD}
 use Rattle.base.specs.Choice.{choose}
 use Rattle.base.proofs.Choice.{below-or-not}
 use Rattle.column.specs.Column.{Column}

@@ -6,10 +6,10 @@ use Prim.Native.Nat.{ℕ, _+_, _-_, _/_, _%_, _^_, _≤_, _<_}
 use native.Mathlib.Omega.{arith}
 use mir.Syntax.{w8}
 use borrow.Author.Needs.{needs, elem-fits}
-use lib.ListN.{length, getD, replicate, getD-replicate}
+use lib.ListN.{length, getD, getD-replicate}
 use Rattle.base.proofs.Table.{length-tabulate, getD-tabulate, is-tabulate}
 use Rattle.gf256.specs.Field.{sum, double, product}
-use Rattle.chunk.specs.Chunk.{width, plusBit}
+use Rattle.chunk.specs.Chunk.{width}
 use Rattle.chunk.proofs.Digits.{plus-bit, combined-none, combined-more}
 use Rattle.chunk.proofs.combine.Statement.{statement}
 use Rattle.chunk.proofs.combine.Tie as tie

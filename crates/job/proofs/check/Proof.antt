@@ -1,10 +1,9 @@
 -- `job::check` meets its contract: the room has B places.
 -- Assumes nothing.
-use mathlib.Core.Path.{refl}
 use Prim.Native.Nat.{_≤_}
 use native.Mathlib.Omega.{arith}
 use borrow.Author.Needs.{needs}
-use lib.ListN.{length, length-take}
+use lib.ListN.{length-take}
 use Rattle.shape.proofs.Refused.{well-shaped}
 use Rattle.job.proofs.check.Statement.{statement}
 use Rattle.job.proofs.check.Tie as tie

@@ -1,9 +1,9 @@
 -- `stripe::check_chunk` meets its contract: p and q hold P* and Q* of each column.
 -- Assumes nothing.
 use borrow.Author.Needs.{needs}
-use mathlib.Core.Path.{_≡_, ap, ap₂, subst, _∙_}
+use mathlib.Core.Path.{ap, ap₂, _∙_}
 use mathlib.Core.List.{List}
-use Prim.Native.Nat.{ℕ, _+_, _<_}
+use Prim.Native.Nat.{ℕ, _+_}
 use native.Mathlib.Omega.{arith}
 use lib.ListN.{length, getD}
 use Rattle.base.proofs.Table.{tabulate-same}
@@ -12,7 +12,6 @@ use Rattle.gf256.proofs.Laws.{sum-comm}
 use Rattle.chunk.proofs.Laws.{each-at}
 use Rattle.column.specs.Column.{Column, parityP, parityQ, reedSolomon, verdictOf}
 use Rattle.shape.specs.Layout.{column}
-use Rattle.verdict.specs.Summary.{WithSummary}
 use Rattle.verdict.proofs.Summary.{summary-as}
 use Rattle.stripe.proofs.check_chunk.Statement.{statement}
 use Rattle.stripe.proofs.check_chunk.Tie as tie

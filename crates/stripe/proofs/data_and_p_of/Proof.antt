@@ -1,6 +1,6 @@
 -- `stripe::data_and_p_of` meets its contract. The loop's invariant: in every column, p is the sum over the roles below k.
 -- Assumes nothing.
-use mathlib.Core.Path.{_≡_, sym, ap, ap₂, _∙_}
+use mathlib.Core.Path.{sym, ap, ap₂, _∙_}
 use mathlib.Core.List.{List}
 use Prim.Native.Nat.{ℕ, _+_, _-_, _≤_}
 use native.Mathlib.Numerals.{add-one}
@@ -11,7 +11,7 @@ use Rattle.gf256.specs.Field.{sum}
 use Rattle.gf256.proofs.Laws.{zero-sum}
 use Rattle.chunk.specs.Chunk.{Holds}
 use Rattle.chunk.proofs.Laws.{each-at}
-use Rattle.column.specs.Column.{Column, total}
+use Rattle.column.specs.Column.{total}
 use Rattle.shape.specs.Layout.{column}
 use Rattle.stripe.proofs.data_and_p_of.Statement.{statement}
 use Rattle.stripe.proofs.data_and_p_of.Tie as tie

@@ -1,7 +1,6 @@
 -- `stripe::restore` meets its contract. The loop's invariant: the first i columns are restored. The measure is what is left.
 -- Assumes nothing.
-use mathlib.Core.Path.{_≡_}
-use Prim.Native.Nat.{ℕ, _+_, _-_, _≤_}
+use Prim.Native.Nat.{_-_, _≤_}
 use native.Mathlib.Omega.{arith}
 use borrow.Author.Needs.{needs}
 use Rattle.chunk.proofs.Laws.{Part, part-of}

@@ -6,7 +6,6 @@ use Prim.Native.Nat.{ℕ, _+_}
 use native.Mathlib.Omega.{arith}
 use lib.ListN.{getD}
 use Rattle.chunk.proofs.Laws.{each-at}
-use Rattle.column.specs.Column.{Column}
 use Rattle.losses.specs.declared.Restored.{Restored}
 use Rattle.losses.specs.declared.Rule.the-variants.{Plain}
 use Rattle.losses.specs.Losses.{solution}

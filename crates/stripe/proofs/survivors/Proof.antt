@@ -8,7 +8,7 @@ use lib.Dec.{eqb}
 use Rattle.base.specs.Choice.{choose}
 use Rattle.gf256.specs.Field.{sum}
 use Rattle.column.specs.Column.{Column, parityP, parityQ, reedSolomon}
-use Rattle.losses.specs.Losses.{emptied, without}
+use Rattle.losses.specs.Losses.{without}
 use Rattle.losses.proofs.Emptied.{emptied-parity, rest-p, rest-q}
 use Rattle.shape.specs.Layout.{column}
 use Rattle.shape.proofs.Columns.{columns-then}

@@ -2,14 +2,14 @@
 -- Assumes nothing.
 use mathlib.Core.Path.{_≡_, refl, ap, _∙_}
 use mathlib.Core.List.{List}
-use Prim.Native.Nat.{ℕ, _+_, _-_, _≤_, _<_}
+use Prim.Native.Nat.{ℕ, _+_, _-_, _≤_}
 use native.Mathlib.Omega.{arith}
 use borrow.Author.Needs.{needs}
 use lib.ListN.{length, getD, length-take, length-drop}
 use lib.Seq.{getD-take, getD-drop}
 use Rattle.gf256.specs.Field.{power}
 use Rattle.chunk.proofs.Laws.{Part, part-of}
-use Rattle.column.specs.Column.{Column, reedSolomon, writeColumn}
+use Rattle.column.specs.Column.{reedSolomon, writeColumn}
 use Rattle.shape.specs.Layout.{column}
 use Rattle.shape.specs.Columns.{ColumnsMapped}
 use Rattle.shape.proofs.Columns.{shaped-same, columns-none, columns-count, columns-as, columns-more}
