@@ -1,16 +1,13 @@
--- The laws of chunks that other crates cite: what stands at a place of a chunk and of a list that one is stored in, how much the next chunk
--- takes, and what the test for zeros says of each place.
+-- The laws of chunks that other crates cite: what stands at a place of a chunk and of a list that one is stored in, and what the test for
+-- zeros says of each place.
 -- Assumes nothing.
 use mathlib.Core.Path.{_≡_, _∙_}
-use mathlib.Core.Logic.{⊎-elim}
 use mathlib.Core.List.{List}
-use Prim.Native.Nat.{ℕ, _≤_, _<_}
-use native.Mathlib.Omega.{arith}
-use borrow.Author.Tests.{lt-ltb, le-ltb}
+use Prim.Native.Nat.{ℕ, _<_}
+use borrow.Author.Tests.{lt-ltb}
 use lib.Dec.{ltb}
 use lib.ListN.{length, getD}
 use Rattle.base.specs.Choice.{choose}
-use Rattle.base.proofs.Choice.{below-or-not}
 use Rattle.base.proofs.Table.{length-tabulate, getD-tabulate}
 use Rattle.chunk.specs.Chunk.{width, each, stored}
 pub use Rattle.chunk.proofs.Zeros.{all-zero-at}
@@ -23,15 +20,3 @@ stored-length to c = length-tabulate (length to) (λ j. choose (ltb j width) (ge
 
 pub stored-at : (to c : List ℕ) (j : ℕ) → j < length to → j < width → getD (stored to c) j 0 ≡ getD c j 0
 stored-at to c j p q = getD-tabulate (length to) (λ j. choose (ltb j width) (getD c j 0) (getD to j 0)) j 0 p ∙ rw (lt-ltb j width q)
-
--- as many columns as are left, and no more than a chunk has; some, where some are left
-pub record Part (left w : ℕ) : Type 0 where
-  pub within : w ≤ left
-  pub small : w ≤ width
-  pub some : 0 < left → 0 < w
-
-pub part-of : {left w : ℕ} → w ≡ choose (ltb left width) left width → Part left w
-part-of {left} {w} e =
-    ⊎-elim (λ l. let is : w ≡ left = e ∙ rw (lt-ltb left width l) in record { within = omega arith; small = omega arith; some = λ p. omega arith })
-    (λ l. let is : w ≡ width = e ∙ rw (le-ltb left width l) in record { within = omega arith; small = omega arith; some = λ p. omega arith })
-    (below-or-not left width)

@@ -14,13 +14,6 @@ ghost use Rattle.chunk.specs.Chunk.{width, each, stored, plus, doublePlu
 // The number of columns that are worked on at a time.
 pub const WIDTH: usize = 64;
 
-// How many of the columns that are left the next chunk takes.
-pub fn part(left: usize) -> usize
-    ensures { λ r. ⌜ r ≡ choose (ltb left width) left width ⌝ }
-{
-    if left < WIDTH { left } else { WIDTH }
-}
-
 // The first WIDTH bytes, with 00 for those that are missing. Here and in `store` the part way has a chunk
 // of its own, so that a whole chunk can stay in registers; the 00 stored last keeps the compiler from
 // making one copy of unknown length of both ways.
@@ -114,24 +107,33 @@ pub fn combine(a: Element, p: [u8; WIDTH], b: Element, q: [u8; WIDTH]) -> [u8; W
     let mut k = 8u8;
     while 0 < k {
         k -= 1;
-        double(&mut d);
-        add_bit(&mut d, a.0 >> k, &p);
-        add_bit(&mut d, b.0 >> k, &q);
+        add_bits(&mut d, a.0 >> k, &p, b.0 >> k, &q);
     }
     d
 }
 
-// d + x where the lowest bit of m is one.
-fn add_bit(d: &mut [u8; WIDTH], m: u8, x: &[u8; WIDTH])
-    ensures { λ _. ⌜ now (d .exit) ≡ each (λ j. plusBit (getD (now (d .entry)) j 0) m (getD (now (x .entry)) j 0)) ⌝ }
+// 02 d, and x where the lowest bit of m is one, and y where that of n is.
+fn add_bits(d: &mut [u8; WIDTH], m: u8, x: &[u8; WIDTH], n: u8, y: &[u8; WIDTH])
+    ensures { λ _. ⌜ now (d .exit) ≡ each (λ j. plusBit (plusBit (double (getD (now (d .entry)) j 0)) m (getD (now (x .entry)) j 0)) n (getD (now (y .entry)) j 0)) ⌝ }
 {
     let _d: &[u8] = d;
-    if m % 2 == 1 {
-        add(d, x);
+    let mut j = 0;
+    while j < WIDTH {
+        let z = Element(d[j]).double();
+        let z = add_bit(z, m, Element(x[j]));
+        d[j] = add_bit(z, n, Element(y[j])).0;
+        j += 1;
     }
 }
 
-fn double(x: &mut [u8; WIDTH])
+fn add_bit(z: Element, m: u8, x: Element) -> Element
+    ensures { λ r. ⌜ r .0 ≡ plusBit (z .0) m (x .0) ⌝ }
+{
+    if m % 2 == 1 { z.sum(x) } else { z }
+}
+
+// 02 x.
+pub fn double(x: &mut [u8; WIDTH])
     ensures { λ _. ⌜ now (x .exit) ≡ each (λ j. double (getD (now (x .entry)) j 0)) ⌝ }
 {
     let _x: &[u8] = x;

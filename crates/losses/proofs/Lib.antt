@@ -1,2 +1,3 @@
-pub mod Emptied
+pub mod Without
 pub mod Planned
+pub mod Again

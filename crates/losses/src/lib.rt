@@ -7,12 +7,10 @@ use gf256::Element;
 ghost use mathlib.Core.Path.{_≡_};
 ghost use Prim.Native.Nat.{_%_, _<_};
 ghost use Rattle.gf256.specs.Field.{power};
-ghost use Rattle.losses.specs.Losses.{alone, withData, planOf, coefficients, isPlain, solutions};
+ghost use Rattle.losses.specs.Losses.{alone, withData, planOf, coefficients, solutions};
 
 // How the bytes of two lost roles come from P* and Q*, here p and q.
 pub enum Rule {
-    // p and q themselves.
-    Plain,
     // The first is a p + b q, the second what is left of p: equations 19 and 20, and with a = 00
     // equation 5.
     Mixed(Element, Element),
@@ -20,9 +18,13 @@ pub enum Rule {
     Carried(Element),
 }
 
-// What a loss asks for: one role by equation 1 alone, or two by both sums. Role n + 2 is no device.
+// What a loss asks for.
 pub enum Plan {
+    // One role by equation 1 alone.
     ByP(usize),
+    // Q as the data give it and, where true, P.
+    FromData(bool),
+    // Two roles, the first of them data, by both sums and a rule.
     ByBoth(usize, usize, Rule),
 }
 
@@ -46,13 +48,12 @@ pub fn plan_of(n: usize, lost: Lost) -> Plan
 
 // One lost device.
 fn alone(n: usize, lost: Device) -> Plan
-    requires { ⌜ n < 65536 ⌝ }
     ensures { λ r. ⌜ r ≡ alone n lost ⌝ }
 {
     match lost {
         Device::Data(x) => Plan::ByP(x),
         Device::P => Plan::ByP(n),
-        Device::Q => Plan::ByBoth(n + 2, n + 1, Rule::Plain),
+        Device::Q => Plan::FromData(false),
     }
 }
 
@@ -66,11 +67,11 @@ fn together(n: usize, first: Device, second: Device) -> Plan
         Device::P => match second {
             Device::Data(x) => with_data(n, x, Device::P),
             Device::P => alone(n, Device::P),
-            Device::Q => Plan::ByBoth(n, n + 1, Rule::Plain),
+            Device::Q => Plan::FromData(true),
         },
         Device::Q => match second {
             Device::Data(x) => with_data(n, x, Device::Q),
-            Device::P => Plan::ByBoth(n, n + 1, Rule::Plain),
+            Device::P => Plan::FromData(true),
             Device::Q => alone(n, Device::Q),
         },
     }
@@ -105,28 +106,15 @@ fn coefficients(x: usize, y: usize) -> Rule
     Rule::Mixed(ratio.product(scale), over_x.product(scale))
 }
 
-// Whether the lost bytes are p and q themselves.
-pub fn is_plain(rule: Rule) -> bool
-    ensures { λ r. ⌜ r ≡ isPlain rule ⌝ }
-{
-    match rule {
-        Rule::Plain => true,
-        Rule::Mixed(_, _) => false,
-        Rule::Carried(_) => false,
-    }
-}
-
 // The lost bytes at each place, by the rule.
 pub fn solve(rule: Rule, p: [u8; WIDTH], q: [u8; WIDTH]) -> Restored
     ensures { λ r. ⌜ r ≡ solutions rule p q ⌝ }
 {
     match rule {
-        Rule::Plain => Restored {
-            first: p,
-            second: q,
-        },
         Rule::Mixed(a, b) => {
-            let first = chunk::combine(a, p, b, q);
+            let mut first = [0u8; WIDTH];
+            chunk::add_product(&mut first, a, p);
+            chunk::add_product(&mut first, b, q);
             let mut second = p;
             chunk::add(&mut second, &first);
             Restored { first, second }

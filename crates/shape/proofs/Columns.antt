@@ -1,5 +1,5 @@
--- The laws of steps that change some columns: none, the same said otherwise, one step after another on the same columns and on the next
--- ones, and all columns of the stripe, which is `lift`.
+-- The laws of steps that change some columns: none, the same said otherwise, one step after another on the same columns, on the next ones
+-- and on some of both, and all columns of the stripe, which is `lift`.
 -- Assumes nothing.
 use mathlib.Core.Path.{_≡_, refl, sym, ap, subst, _∙_}
 use mathlib.Core.Logic.{_⊎_, inl, inr, ⊎-elim}
@@ -63,6 +63,26 @@ module _ {g : Geometry} {i : ℕ} where
           subst (λ (k : ℕ). column g u (i + k) ≡ f k (column g s (i + k))) (omega arith)
           (subst (λ (k : ℕ). column g u k ≡ f (w + (j - w)) (column g t k)) (omega arith) (second .within (j - w) (omega arith))
           ∙ ap (f (w + (j - w))) (first .outside (i + (w + (j - w))) (omega arith) (inr (omega arith))))
+
+  -- v columns of which some were changed already, by a function that changes nothing the second time
+  pub columns-again : {w k v at : ℕ} {s t u : List ℕ} {f : Column → Column} → at ≡ i + k → k ≤ w → w ≤ k + v → at + v ≤ g .b
+      → ((c : Column) → f (f c) ≡ f c)
+      → ColumnsMapped g i w (λ j. f) s t
+      → ColumnsMapped g at v (λ j. f) t u
+      → ColumnsMapped g i (k + v) (λ j. f) s u
+  columns-again {w} {k} {v} {at} {s} {t} {u} {f} begins low high fits same first second =
+      record {
+        kept = second .kept ∙ first .kept;
+        within = λ j p. ⊎-elim (λ l. second .outside (i + j) (omega arith) (inl (omega arith)) ∙ first .within j (omega arith)) (λ l. again j p l) (below-or-not j k);
+        outside = λ c p q.
+            second .outside c p (⊎-elim (λ l. inl (omega arith)) (λ l. inr (omega arith)) q)
+            ∙ first .outside c p (⊎-elim (λ l. inl l) (λ l. inr (omega arith)) q);
+      }
+    where
+      again : (j : ℕ) → j < k + v → k ≤ j → column g u (i + j) ≡ f (column g s (i + j))
+      again j p l =
+          subst (λ (a : ℕ). column g u a ≡ f (column g t a)) (omega arith) (second .within (j - k) (omega arith))
+          ∙ ⊎-elim (λ b. ap f (first .within j b) ∙ same (column g s (i + j))) (λ b. ap f (first .outside (i + j) (omega arith) (inr (omega arith)))) (below-or-not j w)
 
 -- all columns
 pub columns-all : {g : Geometry} {f : ℕ → Column → Column} {s t : List ℕ} → WellShaped g s → ColumnsMapped g 0 (g .b) f s t → t ≡ lift g f s

@@ -8,19 +8,19 @@ use losses::Rule;
 use shape::Geometry;
 use shape::Naming;
 ghost use mathlib.Core.Path.{_≡_};
-ghost use Prim.Native.Nat.{_+_, _≤_, _<_};
+ghost use mathlib.Core.Logic.{_⊎_};
+ghost use Prim.Native.Nat.{_+_, _-_, _≤_, _<_};
 ghost use lib.ListN.{length, getD};
 ghost use Rattle.base.specs.Table.{tabulate};
-ghost use Rattle.gf256.specs.Field.{sum};
-ghost use Rattle.column.specs.Column.{put, total, verdict};
+ghost use Rattle.column.specs.Column.{put, verdict};
 ghost use Rattle.chunk.specs.Chunk.{width, Holds};
 ghost use Rattle.shape.specs.Layout.{column, lift};
 ghost use Rattle.shape.specs.Refusals.{WellShaped};
 ghost use Rattle.shape.specs.Columns.{ColumnsMapped, Stretch};
-ghost use Rattle.losses.specs.Losses.{putRole, emptied, without, restoredBy, solved};
+ghost use Rattle.losses.specs.Losses.{without, byP, restoredBy, solved, KnownPlan};
 ghost use Rattle.verdict.specs.Summary.{WithSummary};
 ghost use Rattle.stripe.specs.Stripe.{verdicts};
-ghost use Rattle.stripe.specs.Engine.{Parities, Survivors};
+ghost use Rattle.stripe.specs.Engine.{Parities, Survivors, DisksAdded, AddedAbove};
 ghost use Rattle.stripe.specs.Calls.{EncodeCall, RebuildCall, RebuildNamedCall, CheckCall};
 
 // What a check answers: a refusal's number, or the first verdict that isn't 0, or 0.
@@ -43,7 +43,7 @@ pub fn encode(g: Geometry, stripe: &mut [u8]) -> u8
     if refused != 0 {
         return refused;
     }
-    restore(g, stripe, Plan::ByBoth(g.n, g.n + 1, Rule::Plain));
+    restore(g, stripe, Plan::FromData(true));
     0
 }
 
@@ -89,120 +89,275 @@ fn check_columns(g: Geometry, stripe: &[u8], room: &mut [u16]) -> u16
 {
     let mut found = 0;
     let mut i = 0;
-    while i < g.b {
-        let w = chunk::part(g.b - i);
-        found = verdict::joined(found, check_chunk(g, stripe, i, &mut room[i..i + w]));
-        i += w;
+    while WIDTH <= g.b - i {
+        found = verdict::joined(found, check_chunk(g, stripe, i, &mut room[i..i + WIDTH]));
+        i += WIDTH;
+    }
+    if i < g.b {
+        found = verdict::joined(found, check_part(g, stripe, i, &mut room[i..]));
     }
     found
 }
 
 // Stored plus recomputed, and what the differences say.
 fn check_chunk(g: Geometry, stripe: &[u8], i: usize, room: &mut [u16]) -> u16
-    requires { ⌜ WellShaped g (now stripe) × (i + length (now room) ≤ g .b) × (length (now room) ≤ width) ⌝ }
+    requires { ⌜ WellShaped g (now stripe) × (i + width ≤ g .b) × (length (now room) ≡ width) ⌝ }
     ensures { λ r. ⌜ WithSummary (tabulate (length (now (room .entry))) (λ j. verdict (g .n) (column g (now (stripe .entry)) (i + j)))) r (now (room .exit)) ⌝ }
 {
-    let w = room.len();
-    let s = parities(g, stripe, i, w);
+    let s = parities(g, stripe, i);
     let mut p = s.p;
     let mut q = s.q;
-    let d = load(g, stripe, g.n, i, w);
+    let d = load(g, stripe, g.n, i, WIDTH);
     chunk::add(&mut p, &d);
-    let d = load(g, stripe, g.n + 1, i, w);
+    let d = load(g, stripe, g.n + 1, i, WIDTH);
     chunk::add(&mut q, &d);
     verdict::verdicts_of(g.n, &p, &q, room)
 }
 
-// ---- what was lost
-
-fn restore(g: Geometry, stripe: &mut [u8], plan: Plan)
-    requires { ⌜ WellShaped g (now stripe) ⌝ }
-    ensures { λ _. ⌜ now (stripe .exit) ≡ lift g (λ i c. restoredBy (g .n) plan c) (now (stripe .entry)) ⌝ }
+fn check_part(g: Geometry, stripe: &[u8], i: usize, room: &mut [u16]) -> u16
+    requires { ⌜ WellShaped g (now stripe) × (i + length (now room) ≡ g .b) × (length (now room) < width) ⌝ }
+    ensures { λ r. ⌜ WithSummary (tabulate (length (now (room .entry))) (λ j. verdict (g .n) (column g (now (stripe .entry)) (i + j)))) r (now (room .exit)) ⌝ }
 {
-    let mut i = 0;
-    while i < g.b {
-        let w = chunk::part(g.b - i);
-        restore_chunk(g, stripe, i, w, plan);
-        i += w;
-    }
-}
-
-fn restore_chunk(g: Geometry, stripe: &mut [u8], i: usize, w: usize, plan: Plan)
-    requires { ⌜ WellShaped g (now stripe) × (i + w ≤ g .b) × (w ≤ width) ⌝ }
-    ensures { λ _. ⌜ ColumnsMapped g i w (λ j c. restoredBy (g .n) plan c) (now (stripe .entry)) (now (stripe .exit)) ⌝ }
-{
-    match plan {
-        Plan::ByP(x) => restore_by_p(g, stripe, i, w, x),
-        Plan::ByBoth(x, y, rule) => restore_by_both(g, stripe, i, w, x, y, rule),
-    }
-}
-
-// Equation 1 alone: Q is neither read nor changed. Role x is set to 00 first, so that the loop over
-// the disks need not test for it.
-fn restore_by_p(g: Geometry, stripe: &mut [u8], i: usize, w: usize, x: usize)
-    requires { ⌜ WellShaped g (now stripe) × (i + w ≤ g .b) × (w ≤ width) ⌝ }
-    ensures { λ _. ⌜ ColumnsMapped g i w (λ j c. restoredBy (g .n) (Plan.ByP x) c) (now (stripe .entry)) (now (stripe .exit)) ⌝ }
-{
-    set_role(g, stripe, x, i, w, [0u8; WIDTH]);
-    let p = data_and_p(g, stripe, i, w);
-    set_role(g, stripe, x, i, w, p);
-}
-
-fn restore_by_both(
-    g: Geometry,
-    stripe: &mut [u8],
-    i: usize,
-    w: usize,
-    x: usize,
-    y: usize,
-    rule: Rule,
-)
-    requires { ⌜ WellShaped g (now stripe) × (i + w ≤ g .b) × (w ≤ width) ⌝ }
-    ensures { λ _. ⌜ ColumnsMapped g i w (λ j c. solved (g .n) x y rule c) (now (stripe .entry)) (now (stripe .exit)) ⌝ }
-{
-    let s = survivors(g, stripe, i, w, x, y);
+    let s = part_sums(g, stripe, i, g.n + 2, g.n + 2);
     let p = s.p;
     let q = s.q;
-    if losses::is_plain(rule) {
-        set_role(g, stripe, y, i, w, q);
-        set_role(g, stripe, x, i, w, p);
-        return;
-    }
-    let new = losses::solve(rule, p, q);
-    let first = new.first;
-    let second = new.second;
-    set_role(g, stripe, y, i, w, second);
-    set_role(g, stripe, x, i, w, first);
+    verdict::verdicts_by_place(g.n, &p, &q, room)
 }
 
-// P* and Q* of each column without the roles x and y. Lost data are set to 00, so that the loop over
-// the disks need not test for them; a lost parity is not added.
-fn survivors(g: Geometry, stripe: &mut [u8], i: usize, w: usize, x: usize, y: usize) -> Sums
-    requires { ⌜ WellShaped g (now stripe) × (i + w ≤ g .b) × (w ≤ width) ⌝ }
-    ensures { λ r. ⌜ Survivors g i w x y (now (stripe .entry)) (r .p) (r .q) (now (stripe .exit)) ⌝ }
+// ---- what was lost
+
+// By whole chunks, of which the last may take columns again: what was lost comes out the same.
+fn restore(g: Geometry, stripe: &mut [u8], plan: Plan)
+    requires { ⌜ WellShaped g (now stripe) × KnownPlan (g .n) plan ⌝ }
+    ensures { λ _. ⌜ now (stripe .exit) ≡ lift g (λ i c. restoredBy (g .n) plan c) (now (stripe .entry)) ⌝ }
 {
-    empty(g, stripe, y, i, w);
-    empty(g, stripe, x, i, w);
-    let s = parities(g, stripe, i, w);
+    if g.b < WIDTH {
+        restore_part(g, stripe, plan);
+        return;
+    }
+    let mut done = 0;
+    while done < g.b {
+        let i = next_chunk(g.b, done);
+        restore_chunk(g, stripe, i, plan);
+        done = i + WIDTH;
+    }
+}
+
+fn next_chunk(b: usize, done: usize) -> usize
+    requires { ⌜ (width ≤ b) × (done ≤ b) ⌝ }
+    ensures { λ r. ⌜ (r ≤ done) × (r + width ≤ b) × (done < b → done < r + width) ⌝ }
+{
+    if b - done < WIDTH { b - WIDTH } else { done }
+}
+
+fn restore_chunk(g: Geometry, stripe: &mut [u8], i: usize, plan: Plan)
+    requires { ⌜ WellShaped g (now stripe) × (i + width ≤ g .b) × KnownPlan (g .n) plan ⌝ }
+    ensures { λ _. ⌜ ColumnsMapped g i width (λ j c. restoredBy (g .n) plan c) (now (stripe .entry)) (now (stripe .exit)) ⌝ }
+{
+    match plan {
+        Plan::ByP(x) => {
+            let p = data_and_p(g, stripe, i, x);
+            set(g, stripe, x, i, WIDTH, p);
+        }
+        Plan::FromData(with_p) => {
+            let s = parities(g, stripe, i);
+            let p = s.p;
+            let q = s.q;
+            set(g, stripe, g.n + 1, i, WIDTH, q);
+            if with_p {
+                set(g, stripe, g.n, i, WIDTH, p);
+            }
+        }
+        Plan::ByBoth(x, y, rule) => restore_by_both(g, stripe, i, x, y, rule),
+    }
+}
+
+fn restore_by_both(g: Geometry, stripe: &mut [u8], i: usize, x: usize, y: usize, rule: Rule)
+    requires { ⌜ WellShaped g (now stripe) × (i + width ≤ g .b) × (x < g .n + 2) × (y < g .n + 2) ⌝ }
+    ensures { λ _. ⌜ ColumnsMapped g i width (λ j c. solved (g .n) x y rule c) (now (stripe .entry)) (now (stripe .exit)) ⌝ }
+{
+    let s = survivors(g, stripe, i, x, y);
     let mut p = s.p;
     let mut q = s.q;
-    add_stored(g, stripe, g.n, i, w, x, y, &mut p);
-    add_stored(g, stripe, g.n + 1, i, w, x, y, &mut q);
+    match rule {
+        Rule::Mixed(a, b) => {
+            let first = chunk::combine(a, p, b, q);
+            chunk::add(&mut p, &first);
+            set(g, stripe, y, i, WIDTH, p);
+            set(g, stripe, x, i, WIDTH, first);
+        }
+        Rule::Carried(c) => {
+            chunk::add_product(&mut q, c, p);
+            set(g, stripe, y, i, WIDTH, q);
+            set(g, stripe, x, i, WIDTH, p);
+        }
+    }
+}
+
+// The same for a block below a chunk.
+fn restore_part(g: Geometry, stripe: &mut [u8], plan: Plan)
+    requires { ⌜ WellShaped g (now stripe) × (g .b < width) × KnownPlan (g .n) plan ⌝ }
+    ensures { λ _. ⌜ now (stripe .exit) ≡ lift g (λ i c. restoredBy (g .n) plan c) (now (stripe .entry)) ⌝ }
+{
+    let w = g.b;
+    match plan {
+        Plan::ByP(x) => {
+            let s = part_sums(g, stripe, 0, x, g.n + 1);
+            let p = s.p;
+            set(g, stripe, x, 0, w, p);
+        }
+        Plan::FromData(with_p) => {
+            let s = part_sums(g, stripe, 0, g.n, g.n + 1);
+            let p = s.p;
+            let q = s.q;
+            set(g, stripe, g.n + 1, 0, w, q);
+            if with_p {
+                set(g, stripe, g.n, 0, w, p);
+            }
+        }
+        Plan::ByBoth(x, y, rule) => {
+            let s = part_sums(g, stripe, 0, x, y);
+            let p = s.p;
+            let q = s.q;
+            let new = losses::solve(rule, p, q);
+            let first = new.first;
+            let second = new.second;
+            set(g, stripe, y, 0, w, second);
+            set(g, stripe, x, 0, w, first);
+        }
+    }
+}
+
+// ---- the sums over the disks, by Horner's rule (equation 21) from the highest disk down
+
+// P and Q of each column as the data give them.
+fn parities(g: Geometry, stripe: &[u8], i: usize) -> Sums
+    requires { ⌜ WellShaped g (now stripe) × (i + width ≤ g .b) ⌝ }
+    ensures { λ r. ⌜ Parities g i (now (stripe .entry)) (r .p) (r .q) ⌝ }
+{
+    let k = g.n - 1;
+    let mut p = load(g, stripe, k, i, WIDTH);
+    let mut q = p;
+    add_disks(g, stripe, i, 0, k, &mut p, &mut q);
     Sums { p, q }
 }
 
-// 00 on a role that is a data disk.
-fn empty(g: Geometry, stripe: &mut [u8], role: usize, i: usize, w: usize)
-    requires { ⌜ WellShaped g (now stripe) × (i + w ≤ g .b) × (w ≤ width) ⌝ }
-    ensures { λ _. ⌜ ColumnsMapped g i w (λ j c. emptied (g .n) role c) (now (stripe .entry)) (now (stripe .exit)) ⌝ }
+// P* and Q* of each column without the roles x and y. A lost disk is no part of the loops: its step
+// is a doubling.
+fn survivors(g: Geometry, stripe: &[u8], i: usize, x: usize, y: usize) -> Sums
+    requires { ⌜ WellShaped g (now stripe) × (i + width ≤ g .b) ⌝ }
+    ensures { λ r. ⌜ Survivors g i width x y (now (stripe .entry)) (r .p) (r .q) ⌝ }
 {
-    if role < g.n {
-        set(g, stripe, role, i, w, [0u8; WIDTH]);
+    let mut p = [0u8; WIDTH];
+    let mut q = [0u8; WIDTH];
+    let k = add_above(g, stripe, i, higher(x, y), g.n, &mut p, &mut q);
+    let k = add_above(g, stripe, i, lower(x, y), k, &mut p, &mut q);
+    add_disks(g, stripe, i, 0, k, &mut p, &mut q);
+    let d = load_but(g, stripe, g.n, i, WIDTH, x, y);
+    chunk::add(&mut p, &d);
+    let d = load_but(g, stripe, g.n + 1, i, WIDTH, x, y);
+    chunk::add(&mut q, &d);
+    Sums { p, q }
+}
+
+fn higher(x: usize, y: usize) -> usize
+    ensures { λ r. ⌜ (x ≤ r) × (y ≤ r) × ((r ≡ x) ⊎ (r ≡ y)) ⌝ }
+{
+    if x < y { y } else { x }
+}
+
+fn lower(x: usize, y: usize) -> usize
+    ensures { λ r. ⌜ (r ≤ x) × (r ≤ y) × ((r ≡ x) ⊎ (r ≡ y)) ⌝ }
+{
+    if x < y { x } else { y }
+}
+
+// The disks below `to` down to the lost one, which counts as 00. The first that is done.
+fn add_above(
+    g: Geometry,
+    stripe: &[u8],
+    i: usize,
+    lost: usize,
+    to: usize,
+    p: &mut [u8; WIDTH],
+    q: &mut [u8; WIDTH],
+) -> usize
+    requires { ⌜ WellShaped g (now stripe) × (i + width ≤ g .b) × (to ≤ g .n) ⌝ }
+    ensures { λ r. ⌜ AddedAbove g i lost to (now (stripe .entry)) (now (p .entry)) (now (q .entry)) r (now (p .exit)) (now (q .exit)) ⌝ }
+{
+    if to <= lost {
+        return to;
+    }
+    add_disks(g, stripe, i, lost + 1, to, p, q);
+    chunk::double(q);
+    lost
+}
+
+// The disks below `to` down to `from`.
+fn add_disks(
+    g: Geometry,
+    stripe: &[u8],
+    i: usize,
+    from: usize,
+    to: usize,
+    p: &mut [u8; WIDTH],
+    q: &mut [u8; WIDTH],
+)
+    requires { ⌜ WellShaped g (now stripe) × (i + width ≤ g .b) × (from ≤ to) × (to ≤ g .n) ⌝ }
+    ensures { λ _. ⌜ DisksAdded g i from to (now (stripe .entry)) (now (p .entry)) (now (q .entry)) (now (p .exit)) (now (q .exit)) ⌝ }
+{
+    let mut k = to;
+    let mut at = g.start(to) + i;
+    while from < k {
+        k -= 1;
+        at -= g.b;
+        let d = chunk::load(&stripe[at..at + WIDTH]);
+        chunk::add_disk(p, q, &d);
     }
 }
 
-// Adds the bytes of a role unless it is x or y.
-fn add_stored(
+// P* and Q* of the columns from i on, fewer than a chunk, without the roles x and y.
+fn part_sums(g: Geometry, stripe: &[u8], i: usize, x: usize, y: usize) -> Sums
+    requires { ⌜ WellShaped g (now stripe) × (i ≤ g .b) × (g .b - i ≤ width) ⌝ }
+    ensures { λ r. ⌜ Survivors g i (g .b - i) x y (now (stripe .entry)) (r .p) (r .q) ⌝ }
+{
+    let w = g.b - i;
+    let mut p = [0u8; WIDTH];
+    let mut q = [0u8; WIDTH];
+    let mut k = g.n;
+    while 0 < k {
+        k -= 1;
+        let d = load_but(g, stripe, k, i, w, x, y);
+        chunk::add_disk(&mut p, &mut q, &d);
+    }
+    let d = load_but(g, stripe, g.n, i, w, x, y);
+    chunk::add(&mut p, &d);
+    let d = load_but(g, stripe, g.n + 1, i, w, x, y);
+    chunk::add(&mut q, &d);
+    Sums { p, q }
+}
+
+// The sum of the data and P of each column without role x. Q is not read.
+fn data_and_p(g: Geometry, stripe: &[u8], i: usize, x: usize) -> [u8; WIDTH]
+    requires { ⌜ WellShaped g (now stripe) × (i + width ≤ g .b) ⌝ }
+    ensures { λ r. ⌜ Holds width (λ j. byP (g .n) x (column g (now (stripe .entry)) (i + j))) r ⌝ }
+{
+    let mut p = [0u8; WIDTH];
+    let mut k = 0;
+    while k < g.n + 1 {
+        if k != x {
+            let d = load(g, stripe, k, i, WIDTH);
+            chunk::add(&mut p, &d);
+        }
+        k += 1;
+    }
+    p
+}
+
+// ---- a stretch of a role's block
+
+// 00 where the role is x or y.
+fn load_but(
     g: Geometry,
     stripe: &[u8],
     role: usize,
@@ -210,84 +365,18 @@ fn add_stored(
     w: usize,
     x: usize,
     y: usize,
-    a: &mut [u8; WIDTH],
-)
+) -> [u8; WIDTH]
     requires { ⌜ WellShaped g (now stripe) × Stretch g role i w × (w ≤ width) ⌝ }
-    ensures { λ _. ⌜ Holds w (λ j. sum (without x y (column g (now (stripe .entry)) (i + j)) role) (getD (now (a .entry)) j 0)) (now (a .exit)) ⌝ }
+    ensures { λ r. ⌜ Holds w (λ j. without x y (column g (now (stripe .entry)) (i + j)) role) r ⌝ }
 {
-    if role != x {
-        if role != y {
-            let d = load(g, stripe, role, i, w);
-            chunk::add(a, &d);
-        }
+    if role == x {
+        return [0u8; WIDTH];
     }
-}
-
-fn set_role(g: Geometry, stripe: &mut [u8], role: usize, i: usize, w: usize, new: [u8; WIDTH])
-    requires { ⌜ WellShaped g (now stripe) × (i + w ≤ g .b) × (w ≤ width) ⌝ }
-    ensures { λ _. ⌜ ColumnsMapped g i w (λ j c. putRole (g .n) role (getD new j 0) c) (now (stripe .entry)) (now (stripe .exit)) ⌝ }
-{
-    if role < g.n + 2 {
-        set(g, stripe, role, i, w, new);
+    if role == y {
+        return [0u8; WIDTH];
     }
+    load(g, stripe, role, i, w)
 }
-
-// ---- the sums over the disks. A whole chunk has a call of its own with a fixed width, so that it is
-// compiled apart and its sums stay in registers.
-
-// P and Q of each column as the data give them.
-fn parities(g: Geometry, stripe: &[u8], i: usize, w: usize) -> Sums
-    requires { ⌜ WellShaped g (now stripe) × (i + w ≤ g .b) × (w ≤ width) ⌝ }
-    ensures { λ r. ⌜ Parities g i w (now (stripe .entry)) (r .p) (r .q) ⌝ }
-{
-    if w < WIDTH {
-        return parities_of(g, stripe, i, w);
-    }
-    parities_of(g, stripe, i, WIDTH)
-}
-
-// Equations 1 and 2, the second by Horner's rule (equation 21) from the highest disk down.
-fn parities_of(g: Geometry, stripe: &[u8], i: usize, w: usize) -> Sums
-    requires { ⌜ WellShaped g (now stripe) × (i + w ≤ g .b) × (w ≤ width) ⌝ }
-    ensures { λ r. ⌜ Parities g i w (now (stripe .entry)) (r .p) (r .q) ⌝ }
-{
-    let mut k = g.n - 1;
-    let mut p = load(g, stripe, k, i, w);
-    let mut q = p;
-    while 0 < k {
-        k -= 1;
-        let d = load(g, stripe, k, i, w);
-        chunk::add_disk(&mut p, &mut q, &d);
-    }
-    Sums { p, q }
-}
-
-// The sum of the data and P of each column.
-fn data_and_p(g: Geometry, stripe: &[u8], i: usize, w: usize) -> [u8; WIDTH]
-    requires { ⌜ WellShaped g (now stripe) × (i + w ≤ g .b) × (w ≤ width) ⌝ }
-    ensures { λ r. ⌜ Holds w (λ j. total (g .n + 1) (column g (now (stripe .entry)) (i + j))) r ⌝ }
-{
-    if w < WIDTH {
-        return data_and_p_of(g, stripe, i, w);
-    }
-    data_and_p_of(g, stripe, i, WIDTH)
-}
-
-fn data_and_p_of(g: Geometry, stripe: &[u8], i: usize, w: usize) -> [u8; WIDTH]
-    requires { ⌜ WellShaped g (now stripe) × (i + w ≤ g .b) × (w ≤ width) ⌝ }
-    ensures { λ r. ⌜ Holds w (λ j. total (g .n + 1) (column g (now (stripe .entry)) (i + j))) r ⌝ }
-{
-    let mut p = load(g, stripe, 0, i, w);
-    let mut k = 1;
-    while k < g.n + 1 {
-        let d = load(g, stripe, k, i, w);
-        chunk::add(&mut p, &d);
-        k += 1;
-    }
-    p
-}
-
-// ---- a stretch of a role's block
 
 fn load(g: Geometry, stripe: &[u8], role: usize, i: usize, w: usize) -> [u8; WIDTH]
     requires { ⌜ WellShaped g (now stripe) × Stretch g role i w × (w ≤ width) ⌝ }

@@ -63,7 +63,8 @@ fn fill_zero(room: &mut [u16])
     }
 }
 
-fn verdicts_by_place(n: usize, p: &[u8], q: &[u8], room: &mut [u16]) -> u16
+// The same, place by place.
+pub fn verdicts_by_place(n: usize, p: &[u8], q: &[u8], room: &mut [u16]) -> u16
     ensures { λ r. ⌜ WithSummary (verdictsOf n (now (p .entry)) (now (q .entry)) (length (now (room .entry)))) r (now (room .exit)) ⌝ }
 {
     let mut found = 0;

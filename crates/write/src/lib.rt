@@ -12,12 +12,12 @@ ghost use Rattle.shape.specs.Layout.{column};
 ghost use Rattle.shape.specs.Refusals.{WellShaped};
 ghost use Rattle.shape.specs.Columns.{ColumnsMapped, Stretch};
 ghost use Rattle.write.specs.Write.{WriteCall};
-ghost use Rattle.write.specs.Steps.{Changed};
+ghost use Rattle.write.specs.Steps.{changedBy, Changed};
 
 // P and Q of a chunk of columns.
-struct Parities {
-    p: [u8; WIDTH],
-    q: [u8; WIDTH],
+pub struct Parities {
+    pub p: [u8; WIDTH],
+    pub q: [u8; WIDTH],
 }
 
 // Sets a stretch of one data disk, and adds what changed to P and Q, also where the stripe is not
@@ -39,39 +39,89 @@ fn write_all(g: Geometry, stripe: &mut [u8], disk: usize, offset: usize, new: &[
 {
     let c = Element(2).power(disk as u64);
     let mut j = 0;
-    while j < new.len() {
-        let w = chunk::part(new.len() - j);
-        write_chunk(g, stripe, disk, offset + j, c, &new[j..j + w]);
-        j += w;
+    while WIDTH <= new.len() - j {
+        write_chunk(g, stripe, disk, offset + j, c, &new[j..j + WIDTH]);
+        j += WIDTH;
+    }
+    if j < new.len() {
+        write_part(g, stripe, disk, offset + j, c, &new[j..]);
     }
 }
 
 // The columns of one chunk; c is the disk's coefficient.
 fn write_chunk(g: Geometry, stripe: &mut [u8], disk: usize, i: usize, c: Element, new: &[u8])
-    requires { ⌜ WellShaped g (now stripe) × Stretch g disk i (length (now new)) × (disk < g .n) × (c .0 ≡ power 2 disk) × (length (now new) ≤ width) ⌝ }
+    requires { ⌜ WellShaped g (now stripe) × Stretch g disk i (length (now new)) × (disk < g .n) × (c .0 ≡ power 2 disk) × (length (now new) ≡ width) ⌝ }
+    ensures { λ _. ⌜ ColumnsMapped g i (length (now (new .entry))) (λ j col. writeColumn reedSolomon (g .n) disk (getD (now (new .entry)) j 0) col) (now (stripe .entry)) (now (stripe .exit)) ⌝ }
+{
+    let d = chunk::load(new);
+    let after = parities_after(g, stripe, disk, i, WIDTH, c, d);
+    store_all(g, stripe, disk, i, WIDTH, d, after);
+}
+
+// The same for less than a chunk.
+fn write_part(g: Geometry, stripe: &mut [u8], disk: usize, i: usize, c: Element, new: &[u8])
+    requires { ⌜ WellShaped g (now stripe) × Stretch g disk i (length (now new)) × (disk < g .n) × (c .0 ≡ power 2 disk) × (length (now new) < width) ⌝ }
     ensures { λ _. ⌜ ColumnsMapped g i (length (now (new .entry))) (λ j col. writeColumn reedSolomon (g .n) disk (getD (now (new .entry)) j 0) col) (now (stripe .entry)) (now (stripe .exit)) ⌝ }
 {
     let w = new.len();
-    let after = changed(g, stripe, disk, i, c, new);
+    let d = chunk::load(new);
+    let after = parities_after(g, stripe, disk, i, w, c, d);
+    store_all(g, stripe, disk, i, w, d, after);
+}
+
+// P and Q after the new bytes are written, before a byte is stored.
+fn parities_after(
+    g: Geometry,
+    stripe: &[u8],
+    disk: usize,
+    i: usize,
+    w: usize,
+    c: Element,
+    new: [u8; WIDTH],
+) -> Parities
+    requires { ⌜ WellShaped g (now stripe) × Stretch g disk i w × (c .0 ≡ power 2 disk) × (w ≤ width) ⌝ }
+    ensures { λ r. ⌜ Changed g disk i w new (now (stripe .entry)) (r .p) (r .q) ⌝ }
+{
+    let old = load(g, stripe, disk, i, w);
+    let p = load(g, stripe, g.n, i, w);
+    let q = load(g, stripe, g.n + 1, i, w);
+    changed(c, old, new, p, q)
+}
+
+fn store_all(
+    g: Geometry,
+    stripe: &mut [u8],
+    disk: usize,
+    i: usize,
+    w: usize,
+    new: [u8; WIDTH],
+    after: Parities,
+)
+    requires { ⌜ WellShaped g (now stripe) × Stretch g disk i w × (w ≤ width) ⌝ }
+    ensures { λ _. ⌜ ColumnsMapped g i w (λ j col. put disk (getD new j 0) (put (g .n) (getD (after .p) j 0) (put (g .n + 1) (getD (after .q) j 0) col))) (now (stripe .entry)) (now (stripe .exit)) ⌝ }
+{
     let p = after.p;
     let q = after.q;
     set(g, stripe, g.n + 1, i, w, q);
     set(g, stripe, g.n, i, w, p);
-    set(g, stripe, disk, i, w, chunk::load(new));
+    set(g, stripe, disk, i, w, new);
 }
 
-// The bytes of P and Q after the write, before any byte is stored.
-fn changed(g: Geometry, stripe: &[u8], disk: usize, i: usize, c: Element, new: &[u8]) -> Parities
-    requires { ⌜ WellShaped g (now stripe) × Stretch g disk i (length (now new)) × (disk < g .n) × (c .0 ≡ power 2 disk) × (length (now new) ≤ width) ⌝ }
-    ensures { λ r. ⌜ Changed g disk i (now (new .entry)) (now (stripe .entry)) (r .p) (r .q) ⌝ }
+// P and Q of a chunk after the bytes of a disk with the coefficient c change from old to new.
+pub fn changed(
+    c: Element,
+    old: [u8; WIDTH],
+    new: [u8; WIDTH],
+    p: [u8; WIDTH],
+    q: [u8; WIDTH],
+) -> Parities
+    ensures { λ r. ⌜ r ≡ changedBy (c .0) old new p q ⌝ }
 {
-    let w = new.len();
-    let mut change = load(g, stripe, disk, i, w);
-    let d = chunk::load(new);
-    chunk::add(&mut change, &d);
-    let mut p = load(g, stripe, g.n, i, w);
+    let mut change = old;
+    chunk::add(&mut change, &new);
+    let mut p = p;
     chunk::add(&mut p, &change);
-    let mut q = load(g, stripe, g.n + 1, i, w);
+    let mut q = q;
     chunk::add_product(&mut q, c, change);
     Parities { p, q }
 }

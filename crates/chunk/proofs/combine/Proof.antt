@@ -9,7 +9,7 @@ use borrow.Author.Needs.{needs, elem-fits}
 use lib.ListN.{length, getD, getD-replicate}
 use Rattle.base.proofs.Table.{length-tabulate, getD-tabulate, is-tabulate}
 use Rattle.gf256.specs.Field.{sum, double, product}
-use Rattle.chunk.specs.Chunk.{width}
+use Rattle.chunk.specs.Chunk.{width, plusBit}
 use Rattle.chunk.proofs.Digits.{plus-bit, combined-none, combined-more}
 use Rattle.chunk.proofs.combine.Statement.{statement}
 use Rattle.chunk.proofs.combine.Tie as tie
@@ -35,47 +35,35 @@ loop-holds c = (omega arith, refl, λ j h. getD-replicate width j 0 0 h ∙ sym 
 sub-k : tie.Need-sub-k Inv-loop μ-loop
 sub-k c = omega arith
 
-double-requires : tie.Need-double-requires Inv-loop μ-loop
-double-requires c κs = search needs
+shr-add-bits : tie.Need-shr-add-bits Inv-loop μ-loop
+shr-add-bits c = omega arith
 
-shr-add-bit : tie.Need-shr-add-bit Inv-loop μ-loop
-shr-add-bit c = omega arith
+shr-add-bits-2 : tie.Need-shr-add-bits-2 Inv-loop μ-loop
+shr-add-bits-2 c = omega arith
 
-add-bit-requires : tie.Need-add-bit-requires Inv-loop μ-loop
-add-bit-requires c κs = search needs
-
-shr-add-bit-2 : tie.Need-shr-add-bit-2 Inv-loop μ-loop
-shr-add-bit-2 c = omega arith
-
-add-bit-requires-2 : tie.Need-add-bit-requires-2 Inv-loop μ-loop
-add-bit-requires-2 c κs = search needs
+add-bits-requires : tie.Need-add-bits-requires Inv-loop μ-loop
+add-bits-requires c κs = search needs
 
 loop-less : tie.Need-loop-less Inv-loop μ-loop
 loop-less c = omega arith
 
 loop-again : tie.Need-loop-again Inv-loop μ-loop
 loop-again c =
-    let here = c .before .before .before .before .before .before .before .before .before .before .before .before in
+    let here = c .before .before .before .before .before .before .before .before in
     let a = here .args .a .0 in
     let b = here .args .b .0 in
-    let l = c .before .before .before .before .before .before .before .before .before .before .before .loop in
+    let l = c .before .before .before .before .before .before .before .loop in
     let k = l .k - 1 in
-    let p = here .args .t2 in
-    let q = here .args .t4 in
     let next : l .k ≡ k + 1 = omega arith in (
       omega arith,
-      ap length (c .add-bit2 .ensures) ∙ length-tabulate width _,
+      ap length (c .add-bits .ensures) ∙ length-tabulate width _,
       λ j h.
-          let x = getD p j 0 in
-          let y = getD q j 0 in
-          ap (λ (l : List ℕ). getD l j 0) (c .add-bit2 .ensures)
+          let x = getD (here .args .t2) j 0 in
+          let y = getD (here .args .t4) j 0 in
+          ap (λ (l : List ℕ). getD l j 0) (c .add-bits .ensures)
           ∙ getD-tabulate width _ j 0 h
-          ∙ plus-bit (getD (c .before .before .before .before .add-bit .last .0) j 0) (b / 2 ^ k) y (byte-q here j)
-          ∙ ap (λ (v : ℕ). sum v (product (b / 2 ^ k % 2) y))
-          (ap (λ (l : List ℕ). getD l j 0) (c .before .before .before .before .add-bit .ensures)
-          ∙ getD-tabulate width _ j 0 h
-          ∙ plus-bit (getD (c .before .before .before .before .before .before .before .before .double .last .0) j 0) (a / 2 ^ k) x (byte-p here j)
-          ∙ ap (λ (v : ℕ). sum v (product (a / 2 ^ k % 2) x)) (ap (λ (l : List ℕ). getD l j 0) (c .before .before .before .before .before .before .before .before .double .ensures) ∙ getD-tabulate width _ j 0 h))
+          ∙ plus-bit (plusBit (double (getD (l .d) j 0)) (a / 2 ^ k) x) (b / 2 ^ k) y (byte-q here j)
+          ∙ ap (λ (v : ℕ). sum v (product (b / 2 ^ k % 2) y)) (plus-bit (double (getD (l .d) j 0)) (a / 2 ^ k) x (byte-p here j))
           ∙ combined-more a b x y k (omega arith) (omega arith) (l .inv .2 j h ∙ ap (λ (m : ℕ). sum (product (a / 2 ^ m) x) (product (b / 2 ^ m) y)) next),
     )
 
@@ -94,11 +82,9 @@ combine-spec =
     μ-loop
     loop-holds
     sub-k
-    double-requires
-    shr-add-bit
-    add-bit-requires
-    shr-add-bit-2
-    add-bit-requires-2
+    shr-add-bits
+    shr-add-bits-2
+    add-bits-requires
     loop-less
     loop-again
     returns)

@@ -13,12 +13,6 @@ enum-told c = search needs
 enum-told-2 : tie.Need-enum-told-2
 enum-told-2 c = search needs
 
-add-t5 : tie.Need-add-t5
-add-t5 c = search needs
-
-add-t6 : tie.Need-add-t6
-add-t6 c = search needs
-
 returns : tie.Need-returns
 returns c = rw (c .before .lost .given .1)
 
@@ -26,9 +20,7 @@ returns-2 : tie.Need-returns-2
 returns-2 c = rw (c .enum-told .given .1)
 
 returns-3 : tie.Need-returns-3
-returns-3 c = rw (c .enum-told2 .given .1)
+returns-3 c = search needs
 
 pub alone-spec : {M : Type 1} → statement M
-alone-spec =
-    tie.close
-    (tie.spec enum-known-lost enum-told enum-told-2 add-t5 add-t6 returns returns-2 returns-3)
+alone-spec = tie.close (tie.spec enum-known-lost enum-told enum-told-2 returns returns-2 returns-3)

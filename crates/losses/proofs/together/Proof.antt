@@ -28,9 +28,6 @@ alone-requires c κs = search needs
 enum-told-3 : tie.Need-enum-told-3
 enum-told-3 c = search needs
 
-add-t11 : tie.Need-add-t11
-add-t11 c = search needs
-
 enum-told-4 : tie.Need-enum-told-4
 enum-told-4 c = search needs
 
@@ -42,9 +39,6 @@ with-data-requires-3 c κs = search needs
 
 enum-told-5 : tie.Need-enum-told-5
 enum-told-5 c = search needs
-
-add-t15 : tie.Need-add-t15
-add-t15 c = search needs
 
 enum-told-6 : tie.Need-enum-told-6
 enum-told-6 c = search needs
@@ -85,12 +79,10 @@ together-spec =
     enum-told-2
     alone-requires
     enum-told-3
-    add-t11
     enum-told-4
     enum-known-second-2
     with-data-requires-3
     enum-told-5
-    add-t15
     enum-told-6
     alone-requires-2
     returns

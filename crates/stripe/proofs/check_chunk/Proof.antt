@@ -53,11 +53,11 @@ returns c =
     ap₂ (verdictOf n)
     (ap (λ (l : List ℕ). getD l j 0) (c .before .before .before .before .before .before .before .before .before .before .before .add .ensures)
     ∙ each-at _ j (omega (arith, here .pre .2))
-    ∙ ap₂ sum (sums .first j p) (c .before .before .before .before .before .before .before .before .before .before .before .before .before .before .load .ensures j p)
+    ∙ ap₂ sum (sums .first j (omega (arith, here .pre .2))) (c .before .before .before .before .before .before .before .before .before .before .before .before .before .before .load .ensures j (omega (arith, here .pre .2)))
     ∙ sum-comm (parityP n (e j)) (e j n))
     (ap (λ (l : List ℕ). getD l j 0) (c .before .before .before .before .before .before .add2 .ensures)
     ∙ each-at _ j (omega (arith, here .pre .2))
-    ∙ ap₂ sum (sums .second j p) (c .before .before .before .before .before .before .before .before .before .load2 .ensures j p)
+    ∙ ap₂ sum (sums .second j (omega (arith, here .pre .2))) (c .before .before .before .before .before .before .before .before .before .load2 .ensures j (omega (arith, here .pre .2)))
     ∙ sum-comm (parityQ reedSolomon n (e j)) (e j (n + 1)))))
     (c .before .before .verdicts-of .ensures)
 

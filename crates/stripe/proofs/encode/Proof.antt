@@ -1,12 +1,9 @@
--- `stripe::encode` meets its contract: its refusal, then P and Q are recomputed.
+-- `stripe::encode` meets its contract: its refusal, then P and Q from the data.
 -- Assumes nothing.
 use borrow.Author.Needs.{needs}
 use mathlib.Core.Path.{sym, _∙_}
-use native.Mathlib.Omega.{arith}
 use Rattle.base.proofs.Refused.{leaves-alone, leaves-done}
-use Rattle.losses.proofs.Planned.{encodes}
 use Rattle.shape.specs.Refusals.{WellShaped}
-use Rattle.shape.proofs.Places.{lift-same}
 use Rattle.shape.proofs.Refused.{well-shaped}
 use Rattle.stripe.specs.Stripe.{encoded}
 use Rattle.stripe.specs.Calls.{afterEncode}
@@ -27,11 +24,8 @@ returns c =
     let refused = c .before .encode-refusal .ensures in
     record { result = refused; stripe = leaves-alone (encoded (a .g) (a .stripe .now)) (a .stripe .now) refused (c .if1 .taken) }
 
-add-t4 : tie.Need-add-t4
-add-t4 c = omega (arith, accepted (c .before .before) .disks)
-
 restore-requires : tie.Need-restore-requires
-restore-requires c κs = accepted (c .before .before)
+restore-requires c κs = (accepted (c .before), tt)
 
 same-length : tie.Need-same-length
 same-length c = search needs
@@ -39,15 +33,15 @@ same-length c = search needs
 returns-2 : tie.Need-returns-2
 unfolding afterEncode
 returns-2 c =
-    let a = c .before .before .before .before .before .before .before .before .args in
-    let refused = c .before .before .before .before .before .before .encode-refusal .ensures in
-    let done = c .before .before .before .before .before .if1 .left in
+    let a = c .before .before .before .before .before .before .before .args in
+    let refused = c .before .before .before .before .before .encode-refusal .ensures in
+    let done = c .before .before .before .before .if1 .left in
     record {
       result = sym done ∙ refused;
-      stripe = leaves-done (encoded (a .g) (a .stripe .now)) (a .stripe .now) refused done (c .before .before .restore .ensures ∙ lift-same (a .g) (a .stripe .now) (encodes (a .g .n)));
+      stripe = leaves-done (encoded (a .g) (a .stripe .now)) (a .stripe .now) refused done (c .before .before .restore .ensures);
     }
 
 pub encode-spec : {M : Type 1} → statement M
 encode-spec =
     tie.close
-    (tie.spec encode-refusal-requires returns add-t4 restore-requires same-length returns-2)
+    (tie.spec encode-refusal-requires returns restore-requires same-length returns-2)

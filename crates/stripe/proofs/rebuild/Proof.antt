@@ -1,7 +1,7 @@
 -- `stripe::rebuild` meets its contract: its refusal, then the plan of the loss, which is the table's row.
 -- Assumes nothing.
 use borrow.Author.Needs.{needs}
-use mathlib.Core.Path.{sym, ap, _∙_}
+use mathlib.Core.Path.{_≡_, sym, ap, subst, _∙_}
 use Prim.Native.Nat.{ℕ}
 use native.Mathlib.Nat.{mod-eq-of-lt}
 use native.Mathlib.Omega.{arith}
@@ -9,8 +9,8 @@ use lib.ListN.{length}
 use Rattle.base.proofs.Refused.{leaves-alone, leaves-done}
 use Rattle.column.specs.Loss.{KnownLoss}
 use Rattle.losses.specs.declared.Plan.{Plan}
-use Rattle.losses.specs.Losses.{planOf, restoredBy}
-use Rattle.losses.proofs.Planned.{planned}
+use Rattle.losses.specs.Losses.{planOf, restoredBy, KnownPlan}
+use Rattle.losses.proofs.Planned.{planned, plan-known}
 use Rattle.shape.specs.Layout.{lift}
 use Rattle.shape.specs.Refusals.{WellShaped}
 use Rattle.shape.proofs.Places.{lift-same}
@@ -27,6 +27,12 @@ accepted c =
     let told = rebuild-accepted (a .g) (length (a .stripe .now)) (a .lost) (sym (c .before .rebuild-refusal .ensures) ∙ c .if1 .left) in
     (well-shaped (a .g) (a .stripe .now) (told .0), told .1)
 
+-- the plan, of n itself
+plan : (c : tie.After-plan-of) → let a = c .before .before .before .before .before .args in c .plan-of .result ≡ planOf (a .g .n) (a .lost)
+plan c =
+    let a = c .before .before .before .before .before .args in
+    c .plan-of .ensures ∙ ap (λ (n : ℕ). planOf n (a .lost)) (mod-eq-of-lt (omega (arith, accepted (c .before .before) .0 .disks)))
+
 rebuild-refusal-requires : tie.Need-rebuild-refusal-requires
 rebuild-refusal-requires c κs = search needs
 
@@ -41,7 +47,10 @@ plan-of-requires : tie.Need-plan-of-requires
 plan-of-requires c κs = search needs
 
 restore-requires : tie.Need-restore-requires
-restore-requires c κs = accepted (c .before .before) .0
+restore-requires c κs =
+    let a = c .before .before .before .before .before .args in
+    let ask = accepted (c .before .before) in
+    (ask .0, subst (KnownPlan (a .g .n)) (sym (plan c)) (plan-known (a .g .n) (a .lost) (ask .1)))
 
 same-length : tie.Need-same-length
 same-length c = search needs
@@ -53,13 +62,12 @@ returns-2 c =
     let ask = accepted (c .before .before .before .before .before) in
     let refused = c .before .before .before .before .before .before .rebuild-refusal .ensures in
     let done = c .before .before .before .before .before .if1 .left in
-    let plan = c .before .before .before .plan-of .ensures ∙ ap (λ (n : ℕ). planOf n (a .lost)) (mod-eq-of-lt (omega (arith, ask .0 .disks))) in
     record {
       result = sym done ∙ refused;
       stripe =
           leaves-done (rebuilt (a .g) (a .lost) (a .stripe .now)) (a .stripe .now) refused done
           (c .before .before .restore .ensures
-          ∙ ap (λ (p : Plan). lift (a .g) (λ i e. restoredBy (a .g .n) p e) (a .stripe .now)) plan
+          ∙ ap (λ (p : Plan). lift (a .g) (λ i e. restoredBy (a .g .n) p e) (a .stripe .now)) (plan (c .before .before .before))
           ∙ lift-same (a .g) (a .stripe .now) (planned (a .g .n) (a .lost) (ask .1)));
     }
 

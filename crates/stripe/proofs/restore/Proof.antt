@@ -1,57 +1,58 @@
--- `stripe::restore` meets its contract. The loop's invariant: the first i columns are restored. The measure is what is left.
+-- `stripe::restore` meets its contract. The loop's invariant: the first `done` columns are restored. The measure is what is left.
 -- Assumes nothing.
+use borrow.Author.Needs.{needs}
 use Prim.Native.Nat.{_-_, _≤_}
 use native.Mathlib.Omega.{arith}
-use borrow.Author.Needs.{needs}
-use Rattle.chunk.proofs.Laws.{Part, part-of}
 use Rattle.losses.specs.Losses.{restoredBy}
+use Rattle.losses.proofs.Again.{restored-again}
 use Rattle.shape.specs.Columns.{ColumnsMapped}
-use Rattle.shape.proofs.Columns.{shaped-same, columns-none, columns-count, columns-more, columns-all}
+use Rattle.shape.proofs.Columns.{shaped-same, columns-none, columns-count, columns-again, columns-all}
 use Rattle.stripe.proofs.restore.Statement.{statement}
 use Rattle.stripe.proofs.restore.Tie as tie
 
 abbrev Inv-loop : tie.InvT-loop
-Inv-loop g stripe₀ plan i₀ stripe i = (i ≤ g .b) × ColumnsMapped g 0 i (λ j c. restoredBy (g .n) plan c) stripe₀ stripe
+Inv-loop g stripe₀ plan done₀ stripe done = (done ≤ g .b) × ColumnsMapped g 0 done (λ j c. restoredBy (g .n) plan c) stripe₀ stripe
 
 abbrev μ-loop : tie.MeasureT-loop
-μ-loop g stripe₀ plan i₀ stripe i = g .b - i
+μ-loop g stripe₀ plan done₀ stripe done = g .b - done
 
--- how many columns the next chunk takes
-next : (c : tie.After-part Inv-loop μ-loop) → Part (c .before .before .before .before .before .before .args .g .b - c .before .before .before .before .loop .i) (c .part .result)
-next c = part-of (c .part .ensures)
+restore-part-requires : tie.Need-restore-part-requires Inv-loop μ-loop
+restore-part-requires c κs = search needs
+
+same-length : tie.Need-same-length Inv-loop μ-loop
+same-length c = search needs
+
+returns : tie.Need-returns Inv-loop μ-loop
+returns c = search needs
 
 loop-holds : tie.Need-loop-holds Inv-loop μ-loop
 loop-holds c = (omega arith, columns-none)
 
-sub-part : tie.Need-sub-part Inv-loop μ-loop
-sub-part c = omega arith
-
-part-requires : tie.Need-part-requires Inv-loop μ-loop
-part-requires c κs = search needs
+next-chunk-requires : tie.Need-next-chunk-requires Inv-loop μ-loop
+next-chunk-requires c κs = search needs
 
 restore-chunk-requires : tie.Need-restore-chunk-requires Inv-loop μ-loop
-restore-chunk-requires c κs =
-    let w = next (c .before) in
-    let l = c .before .before .before .before .before .loop in
-    (shaped-same (c .before .before .before .before .before .before .before .pre) (l .inv .1 .kept), omega arith, w .small)
+restore-chunk-requires c κs = let pre = c .before .before .before .before .before .before .before .before .pre in (shaped-same (pre .0) (c .before .before .before .before .loop .inv .1 .kept), c .before .next-chunk .ensures .1, pre .1)
 
-add-i : tie.Need-add-i Inv-loop μ-loop
-add-i c = let w = next (c .before .before .before .before) in omega (arith, c .before .before .before .before .before .before .before .before .before .before .pre .block)
+add-done : tie.Need-add-done Inv-loop μ-loop
+add-done c = omega (arith, c .before .before .before .before .next-chunk .ensures .1, c .before .before .before .before .before .before .before .before .before .before .before .pre .0 .block)
 
 loop-less : tie.Need-loop-less Inv-loop μ-loop
-loop-less c = let w = next (c .before .before .before .before) in omega (arith, w .some (omega arith))
+loop-less c = let on = c .before .before .before .before .next-chunk .ensures .2 (omega arith) in omega arith
 
 loop-again : tie.Need-loop-again Inv-loop μ-loop
 loop-again c =
-    let w = next (c .before .before .before .before) in
-    let l = c .before .before .before .before .before .before .before .before .loop in
-    (omega arith, columns-more (omega arith) (omega arith) (l .inv .1) (c .before .before .restore-chunk .ensures))
+    let a = c .before .before .before .before .before .before .before .before .before .before .before .args in
+    let l = c .before .before .before .before .before .before .before .loop in
+    let chunk = c .before .before .before .before .next-chunk .ensures in
+    let on = chunk .2 (omega arith) in
+    (chunk .1, columns-again (omega arith) (chunk .0) (omega arith) (chunk .1) (restored-again (a .g .n) (a .plan)) (l .inv .1) (c .before .before .restore-chunk .ensures))
 
-same-length : tie.Need-same-length Inv-loop μ-loop
-same-length c = c .before .before .loop .inv .1 .kept
+same-length-2 : tie.Need-same-length-2 Inv-loop μ-loop
+same-length-2 c = c .before .before .loop .inv .1 .kept
 
-returns : tie.Need-returns Inv-loop μ-loop
-returns c = let l = c .before .before .loop in columns-all (c .before .before .before .before .pre) (columns-count (omega (arith, l .inv .0)) (l .inv .1))
+returns-2 : tie.Need-returns-2 Inv-loop μ-loop
+returns-2 c = let l = c .before .before .loop in columns-all (c .before .before .before .before .before .before .pre .0) (columns-count (omega (arith, l .inv .0)) (l .inv .1))
 
 pub restore-spec : {M : Type 1} → statement M
 restore-spec =
@@ -59,12 +60,14 @@ restore-spec =
     (tie.spec
     Inv-loop
     μ-loop
+    restore-part-requires
+    same-length
+    returns
     loop-holds
-    sub-part
-    part-requires
+    next-chunk-requires
     restore-chunk-requires
-    add-i
+    add-done
     loop-less
     loop-again
-    same-length
-    returns)
+    same-length-2
+    returns-2)

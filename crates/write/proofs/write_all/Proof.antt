@@ -1,19 +1,17 @@
 -- `write::write_all` meets its contract. The loop's invariant: the j columns from the offset on are written. The measure is what is left.
 -- Assumes nothing.
+use borrow.Author.Needs.{needs}
 use mathlib.Core.Path.{_≡_, refl, ap, _∙_}
 use mathlib.Core.List.{List}
 use Prim.Native.Nat.{ℕ, _+_, _-_, _≤_}
 use native.Mathlib.Omega.{arith}
-use borrow.Author.Needs.{needs}
-use lib.ListN.{length, getD, length-take, length-drop}
-use lib.Seq.{getD-take, getD-drop}
+use lib.ListN.{length, getD, take, drop}
 use Rattle.gf256.specs.Field.{power}
-use Rattle.chunk.proofs.Laws.{Part, part-of}
+use Rattle.chunk.specs.Chunk.{width}
 use Rattle.column.specs.Column.{reedSolomon, writeColumn}
-use Rattle.shape.specs.Layout.{column}
 use Rattle.shape.specs.Columns.{ColumnsMapped}
-use Rattle.shape.proofs.Columns.{shaped-same, columns-none, columns-count, columns-as, columns-more}
-use lib.ListN.{take, drop}
+use Rattle.shape.proofs.Columns.{shaped-same, columns-none, columns-count}
+use Rattle.write.proofs.Written.{lent-long, written-more}
 use Rattle.write.proofs.write_all.Statement.{statement}
 use Rattle.write.proofs.write_all.Tie as tie
 
@@ -24,78 +22,85 @@ Inv-loop g stripe₀ disk offset new c j₀ stripe j =
 abbrev μ-loop : tie.MeasureT-loop
 μ-loop g stripe₀ disk offset new c j₀ stripe j = length new - j
 
--- how many columns the next chunk takes
-next : (c : tie.After-part Inv-loop μ-loop) → Part (length (c .before .before .before .before .before .before .args .new .now) - c .before .before .loop .j) (c .part .result)
-next c = part-of (c .part .ensures)
-
--- its new bytes, lent as a part
-long : (new : List ℕ) (j w : ℕ) → j + w ≤ length new → length (take (j + w - j) (drop j new)) ≡ w
-long new j w fits = simp (length-take, length-drop) (omega arith)
-
 power-requires : tie.Need-power-requires Inv-loop μ-loop
 power-requires c κs = search needs
 
 loop-holds : tie.Need-loop-holds Inv-loop μ-loop
 loop-holds c = (omega arith, c .power .ensures, columns-none)
 
-sub-part : tie.Need-sub-part Inv-loop μ-loop
-sub-part c = omega arith
-
-part-requires : tie.Need-part-requires Inv-loop μ-loop
-part-requires c κs = search needs
+sub-loop : tie.Need-sub-loop Inv-loop μ-loop
+sub-loop c = omega arith
 
 add-write-chunk : tie.Need-add-write-chunk Inv-loop μ-loop
-add-write-chunk c = let w = next (c .before) in omega (arith, c .before .before .before .before .before .before .before .pre .1 .fits, c .before .before .before .before .before .before .before .pre .0 .block)
+add-write-chunk c = omega (arith, c .before .before .before .before .before .before .pre .1 .fits, c .before .before .before .before .before .before .pre .0 .block)
 
 add-write-chunk-2 : tie.Need-add-write-chunk-2 Inv-loop μ-loop
-add-write-chunk-2 c = let w = next (c .before) in omega arith
+add-write-chunk-2 c = omega arith
 
 sub-write-chunk : tie.Need-sub-write-chunk Inv-loop μ-loop
-sub-write-chunk c = let w = next (c .before) in omega arith
+sub-write-chunk c = omega arith
 
 part-write-chunk-start : tie.Need-part-write-chunk-start Inv-loop μ-loop
-part-write-chunk-start c = let w = next (c .before) in omega arith
+part-write-chunk-start c = omega arith
 
 part-write-chunk-end : tie.Need-part-write-chunk-end Inv-loop μ-loop
-part-write-chunk-end c = let w = next (c .before) in omega arith
+part-write-chunk-end c = omega arith
 
 write-chunk-requires : tie.Need-write-chunk-requires Inv-loop μ-loop
 write-chunk-requires c κs =
-    let here = c .before .before .before .before .before .before .before .before in
+    let here = c .before .before .before .before .before .before .before in
     let a = here .args in
-    let l = c .before .before .before .before .loop in
-    let w = next (c .before .before) in
-    let size = long (a .new .now) (l .j) (c .before .before .part .result) (omega arith) in
-    (shaped-same (here .pre .0) (l .inv .2 .kept), record { known = here .pre .1 .known; fits = omega (arith, size, here .pre .1 .fits) }, here .pre .2, l .inv .1, omega (arith, size, w .small))
+    let l = c .before .before .before .loop in
+    let size = lent-long (a .new .now) (l .j) (l .j + width) (omega arith) (omega arith) in
+    (shaped-same (here .pre .0) (l .inv .2 .kept), record { known = here .pre .1 .known; fits = omega (arith, size, here .pre .1 .fits) }, here .pre .2, l .inv .1, omega (arith, size))
 
 add-j : tie.Need-add-j Inv-loop μ-loop
-add-j c = let w = next (c .before .before .before .before .before) in omega arith
+add-j c = omega arith
 
 loop-less : tie.Need-loop-less Inv-loop μ-loop
-loop-less c = let w = next (c .before .before .before .before .before) in omega (arith, w .some (omega arith))
+loop-less c = omega arith
 
 loop-again : tie.Need-loop-again Inv-loop μ-loop
 loop-again c =
-    let here = c .before .before .before .before .before .before .before .before .before .before .before in
+    let here = c .before .before .before .before .before .before .before .before .before .before in
     let a = here .args in
-    let l = c .before .before .before .before .before .before .before .loop in
-    let v = c .before .before .before .before .before .part .result in
-    let w = next (c .before .before .before .before .before) in
-    let size = long (a .new .now) (l .j) v (omega arith) in (
-      omega arith,
-      l .inv .1,
-      columns-more refl (omega (arith, here .pre .1 .fits)) (l .inv .2)
-          (columns-as (columns-count size (c .before .before .write-chunk .ensures))
-          (λ j p.
-          ap (λ (x : ℕ). writeColumn reedSolomon (a .g .n) (a .disk) x (column (a .g) (l .stripe) (a .offset + l .j + j)))
-          (getD-take (l .j + v - l .j) (drop (l .j) (a .new .now)) j 0 (omega arith) ∙ getD-drop (l .j) (a .new .now) j 0))),
-    )
+    let l = c .before .before .before .before .before .before .loop in
+    (omega arith, l .inv .1, columns-count (omega arith) (written-more (a .g) (a .disk) (a .offset) (a .new .now) (l .j + width) (omega arith) (omega arith) (here .pre .1 .fits) (l .inv .2) (c .before .before .write-chunk .ensures)))
+
+add-write-part : tie.Need-add-write-part Inv-loop μ-loop
+add-write-part c = omega (arith, c .before .before .before .before .before .before .before .pre .1 .fits, c .before .before .before .before .before .before .before .pre .0 .block)
+
+sub-write-part : tie.Need-sub-write-part Inv-loop μ-loop
+sub-write-part c = omega arith
+
+part-write-part-start : tie.Need-part-write-part-start Inv-loop μ-loop
+part-write-part-start c = omega arith
+
+part-write-part-end : tie.Need-part-write-part-end Inv-loop μ-loop
+part-write-part-end c = omega arith
+
+write-part-requires : tie.Need-write-part-requires Inv-loop μ-loop
+write-part-requires c κs =
+    let here = c .before .before .before .before .before .before .before .before in
+    let a = here .args in
+    let l = c .before .before .before .before .loop in
+    let size = lent-long (a .new .now) (l .j) (length (a .new .now)) (omega arith) (omega arith) in
+    (shaped-same (here .pre .0) (l .inv .2 .kept), record { known = here .pre .1 .known; fits = omega (arith, size, here .pre .1 .fits) }, here .pre .2, l .inv .1, omega (arith, size))
 
 same-length : tie.Need-same-length Inv-loop μ-loop
-same-length c = c .before .loop .inv .2 .kept
+same-length c = c .before .before .write-part .ensures .kept ∙ c .before .before .before .before .before .before .before .loop .inv .2 .kept
 
 returns : tie.Need-returns Inv-loop μ-loop
-returns c = columns-count (omega (arith, c .before .loop .inv .0)) (c .before .loop .inv .2)
+returns c =
+    let here = c .before .before .before .before .before .before .before .before .before .before .before in
+    let a = here .args in
+    written-more (a .g) (a .disk) (a .offset) (a .new .now) (length (a .new .now)) (omega arith) (omega arith) (here .pre .1 .fits) (c .before .before .before .before .before .before .before .loop .inv .2) (c .before .before .write-part .ensures)
+
+same-length-2 : tie.Need-same-length-2 Inv-loop μ-loop
+same-length-2 c = c .before .before .loop .inv .2 .kept
+
+returns-2 : tie.Need-returns-2 Inv-loop μ-loop
+returns-2 c = let l = c .before .before .loop in columns-count (omega (arith, l .inv .0)) (l .inv .2)
 
 pub write-all-spec : {M : Type 1} → statement M
 write-all-spec =
@@ -105,8 +110,7 @@ write-all-spec =
     μ-loop
     power-requires
     loop-holds
-    sub-part
-    part-requires
+    sub-loop
     add-write-chunk
     add-write-chunk-2
     sub-write-chunk
@@ -116,5 +120,12 @@ write-all-spec =
     add-j
     loop-less
     loop-again
+    add-write-part
+    sub-write-part
+    part-write-part-start
+    part-write-part-end
+    write-part-requires
     same-length
-    returns)
+    returns
+    same-length-2
+    returns-2)
