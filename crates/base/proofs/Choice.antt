@@ -1,4 +1,4 @@
--- The laws of choices: what a test that failed says of its parts, and a number below another or not.
+-- The laws of choices: what a test that failed says of its parts, their order, and a number below another or not.
 -- Assumes nothing.
 use mathlib.Core.Path.{_≡_, refl, sym}
 use mathlib.Core.Logic.{_⊎_, inl, inr}
@@ -15,6 +15,12 @@ either-false false b e = (refl, e)
 pub both-true : (a b : Bool) → both a b ≡ true → (a ≡ true) × (b ≡ true)
 both-true true b e = (refl, e)
 both-true false b e = absurd (true≢false (sym e))
+
+pub either-comm : (a b : Bool) → either a b ≡ either b a
+either-comm true true = refl
+either-comm true false = refl
+either-comm false true = refl
+either-comm false false = refl
 
 pub below-or-not : (i k : ℕ) → (i < k) ⊎ (k ≤ i)
 below-or-not i k = go (decLt i k)

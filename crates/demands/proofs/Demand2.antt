@@ -4,11 +4,11 @@
 use mathlib.Core.Path.{_≡_, refl, sym, ap, ap₂, _∙_}
 use mathlib.Core.Logic.{_≢_}
 use mathlib.Core.Bool.{Bool, true, false}
-use mathlib.Core.List.{List, [], _∷_}
+use mathlib.Core.List.{List}
 use Prim.Native.Nat.{ℕ, _+_, _-_, _≤_, _<_}
 use native.Mathlib.Omega.{arith}
 use native.Mathlib.Decide.{ℕ-discrete}
-use borrow.Author.Tests.{eqb-false, eq-eqb, ne-eqb}
+use borrow.Author.Tests.{eqb-false}
 use lib.Dec.{eqb}
 use lib.ListN.{length, getD}
 use Rattle.gf256.specs.Field.{sum}
@@ -17,14 +17,15 @@ use Rattle.column.specs.declared.Device.{Device}
 use Rattle.column.specs.declared.Device.the-variants.{Data, P, Q}
 use Rattle.column.specs.declared.Lost.{Lost}
 use Rattle.column.specs.declared.Lost.the-variants.{One, Two}
-use Rattle.base.specs.Choice.{choose, either}
+use Rattle.base.specs.Choice.{choose}
 use Rattle.column.specs.Column.{Column, roleOf, newByte, encodeColumn, writeColumn, rebuildColumn, reedSolomon}
 use Rattle.shape.specs.Layout.{column}
 use Rattle.write.specs.Write.{covers, afterWrite}
-use Rattle.base.specs.Refusal.{firstOf}
-use Rattle.shape.specs.Refusals.{library, refusal1, refusal2, refusal3, unknown, sameDevice, encodeRefusal, writeRefusal, rebuildRefusal, WellShaped}
-use Rattle.stripe.specs.Calls.{afterEncode, afterRebuild}
+use Rattle.shape.specs.Refusals.{encodeRefusal, writeRefusal, rebuildRefusal, WellShaped}
+use Rattle.shape.specs.Codes.{namingOf, namedRefusal}
+use Rattle.stripe.specs.Calls.{afterEncode, afterRebuild, rebuiltBy}
 use Rattle.shape.proofs.Places.{by-columns}
+use Rattle.shape.proofs.Order.{refusal-in-any-order, codes-exchanged, code-refusal-in-any-order}
 use Rattle.shape.proofs.Refused.{well-shaped, write-accepted, rebuild-accepted}
 use Rattle.column.proofs.Loss.{known-role}
 use Rattle.column.proofs.Put.{put-same}
@@ -164,37 +165,6 @@ module _ (g : Geometry) (s t : List ℕ) (hs : Bytes s) (ht : Bytes t) (len : le
     one-Q-from-data accepted = same-byte Q accepted (total-same (g .n) (λ k p. ap (reedSolomon .act k) (agree k p)))
 
 -- ---- the order of the two names doesn't matter, be the call accepted or refused
-either-comm : (a b : Bool) → either a b ≡ either b a
-either-comm true true = refl
-either-comm true false = refl
-either-comm false true = refl
-either-comm false false = refl
-
-eqb-comm : (a b : ℕ) → eqb a b ≡ eqb b a
-eqb-comm a b = go (ℕ-discrete a b)
-  where
-    go : Dec (a ≡ b) → eqb a b ≡ eqb b a
-    go (yes e) = eq-eqb a b e ∙ sym (eq-eqb b a (sym e))
-    go (no n) = ne-eqb a b n ∙ sym (ne-eqb b a (λ e. n (sym e)))
-
-same-comm : (d e : Device) → sameDevice d e ≡ sameDevice e d
-same-comm (Data k) (Data j) = eqb-comm k j
-same-comm (Data k) P = refl
-same-comm (Data k) Q = refl
-same-comm P (Data j) = refl
-same-comm P P = refl
-same-comm P Q = refl
-same-comm Q (Data j) = refl
-same-comm Q P = refl
-same-comm Q Q = refl
-
-pub refusal-in-any-order : (g : Geometry) (len : ℕ) (d e : Device) → rebuildRefusal g len (Two d e) ≡ rebuildRefusal g len (Two e d)
-refusal-in-any-order g len d e =
-    ap₂
-    (λ (u t : Bool). firstOf (refusal1 library g ∷ refusal2 library g ∷ refusal3 g len ∷ record { number = 4; applies = u } ∷ record { number = 5; applies = t } ∷ []))
-    (either-comm (unknown g d) (unknown g e))
-    (same-comm d e)
-
 pub names-in-any-order : (g : Geometry) (d e : Device) (s : List ℕ) → Bytes s → afterRebuild g (Two e d) s ≡ afterRebuild g (Two d e) s
 names-in-any-order g d e s bytes = go (ℕ-discrete (rebuildRefusal g (length s) (Two d e)) 0)
   where
@@ -215,6 +185,15 @@ names-in-any-order g d e s bytes = go (ℕ-discrete (rebuildRefusal g (length s)
         fit : WellShaped g s
         fit = fitting g (Two d e) s accepted
     go (no refused) = rebuild-refused g (Two e d) s (λ z. refused (sym order ∙ z)) ∙ sym (rebuild-refused g (Two d e) s refused)
+
+-- the same where codes name them, unless one names none
+pub codes-in-any-order : (g : Geometry) (first second : ℕ) (s : List ℕ) → Bytes s → first ≢ 65535 → second ≢ 65535
+    → (namedRefusal g (length s) (namingOf first second) ≡ namedRefusal g (length s) (namingOf second first))
+    × (rebuiltBy g (namingOf first second) s ≡ rebuiltBy g (namingOf second first) s)
+codes-in-any-order g first second s bytes a b = (
+  code-refusal-in-any-order g (length s) first second a b,
+  codes-exchanged (λ x y. rebuiltBy g x s ≡ rebuiltBy g y s) (λ d e. names-in-any-order g e d s bytes) refl first second a b,
+)
 
 -- ---- after an accepted call column i depends on the earlier column i, the call's numbers and, for a write, the new byte there
 abbrev pub SameColumn : Geometry → ℕ → List ℕ → List ℕ → Type 0
