@@ -7,6 +7,8 @@ pub mod Findings
 pub mod Invertible
 pub mod Reports
 pub mod Fit
+pub mod Onto
 pub mod Rebuild
 pub mod Places
 pub mod Permutations
+pub mod Witnesses

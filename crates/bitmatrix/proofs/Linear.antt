@@ -65,6 +65,10 @@ pack-xor (suc n) f g hf hg =
     ∙ sym (xor-block n (f n) (g n) (pack n f) (pack n g) (pack-lt n f hf) (pack-lt n g hg))
     ∙ ap₂ bitXor (sym (pack-more n f)) (sym (pack-more n g))
 
+pub apply-lt : (m : Matrix) (v : ℕ) → apply m v < 256
+unfolding apply component
+apply-lt m v = pack-lt 8 (component m v) (λ r. omega arith)
+
 -- a product whose every bit is the sum of two others' is their sum
 apply-xor : (m a b : Matrix) (v x y : ℕ) → ((r : ℕ) → r < 8 → component m v r ≡ (component a x r + component b y r) % 2)
     → apply m v ≡ bitXor (apply a x) (apply b y)

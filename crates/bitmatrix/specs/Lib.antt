@@ -2,3 +2,4 @@ pub mod Fold
 pub mod Matrix
 pub mod Judge
 pub mod Cone
+pub mod Rebuild

@@ -1,0 +1,61 @@
+-- What the theorems about the judge suppose can be met: each definition has an example, which the definitions compute.
+-- Assumes nothing.
+use mathlib.Core.Path.{_≡_, refl, subst}
+use mathlib.Core.Bool.{true, _&&_}
+use mathlib.Core.List.{[], _∷_}
+use Prim.Native.Nat.{ℕ, _<_}
+use borrow.Author.Tests.{eqb-true}
+use lib.Dec.{eqb}
+use Rattle.bitmatrix.specs.Fold.{fold, sum}
+use Rattle.bitmatrix.specs.Matrix.{Matrix, entry, component, apply, invertible}
+use Rattle.bitmatrix.specs.Judge.{Code, finding}
+use Rattle.bitmatrix.specs.Cone.{Cone, Permutation, FirstSingular, FirstPair, Reports}
+use Rattle.bitmatrix.specs.declared.Finding.the-variants.{Fit, Singular, Pair}
+use Rattle.base.specs.Table.{tabulate}
+use Rattle.bitmatrix.proofs.Fold.{none-fold}
+use Rattle.bitmatrix.proofs.Invertible.{and-true}
+use Rattle.bitmatrix.proofs.Reports.{reported}
+use Rattle.bitmatrix.proofs.Fit.{fit-cone}
+
+abbrev pub identity : Matrix
+identity = 1 ∷ 2 ∷ 4 ∷ 8 ∷ 16 ∷ 32 ∷ 64 ∷ 128 ∷ []
+
+-- times 02 in the paper's field
+abbrev pub double : Matrix
+double = 128 ∷ 1 ∷ 130 ∷ 132 ∷ 136 ∷ 16 ∷ 32 ∷ 64 ∷ []
+
+abbrev pub zeros : Matrix
+zeros = 0 ∷ 0 ∷ 0 ∷ 0 ∷ 0 ∷ 0 ∷ 0 ∷ 0 ∷ []
+
+-- a rule that is computed at each place below 8
+by-place : (f : ℕ → ℕ) → fold _&&_ true 8 (λ k. eqb (f k) 1) ≡ true → (k : ℕ) → k < 8 → f k ≡ 1
+by-place f e k l = eqb-true _ _ (none-fold _&&_ true and-true 8 (λ k. eqb (f k) 1) e k l)
+
+pub identity-permutes : Permutation identity
+unfolding fold
+identity-permutes =
+    record {
+      rows = by-place (λ r. sum 8 (λ c. entry identity r c)) refl;
+      columns = by-place (λ c. sum 8 (λ r. entry identity r c)) refl;
+    }
+
+pub found-fit : finding (identity ∷ double ∷ []) 2 ≡ Fit
+unfolding finding invertible apply component fold tabulate
+found-fit = refl
+
+pub found-pair : finding (identity ∷ identity ∷ []) 2 ≡ Pair 0 1
+unfolding finding invertible apply component fold tabulate
+found-pair = refl
+
+pub found-singular : finding (identity ∷ zeros ∷ []) 2 ≡ Singular 1
+unfolding finding invertible apply component fold tabulate
+found-singular = refl
+
+pub a-cone : Cone (identity ∷ double ∷ []) 2
+a-cone = fit-cone (identity ∷ double ∷ []) 2 .0 found-fit
+
+pub a-first-pair : FirstPair (identity ∷ identity ∷ []) 2 0 1
+a-first-pair = subst (Reports (identity ∷ identity ∷ []) 2) found-pair (reported (identity ∷ identity ∷ []) 2)
+
+pub a-first-singular : FirstSingular (identity ∷ zeros ∷ []) 2 1
+a-first-singular = subst (Reports (identity ∷ zeros ∷ []) 2) found-singular (reported (identity ∷ zeros ∷ []) 2)
