@@ -2,12 +2,12 @@
 -- Assumes nothing.
 use mathlib.Core.Path.{_≡_}
 use mathlib.Core.Logic.{_⊎_}
+use mathlib.Core.List.{List, [], _∷_}
 use Prim.Native.Nat.{ℕ, _<_}
 use Rattle.bitmatrix.specs.Fold.{sum}
 use Rattle.bitmatrix.specs.Matrix.{Matrix, entry, apply, add}
-use Rattle.bitmatrix.specs.Judge.{Code, X}
+use Rattle.bitmatrix.specs.Judge.{Code, X, placesOf}
 use Rattle.bitmatrix.specs.declared.Finding.{Finding}
-use Rattle.bitmatrix.specs.declared.Finding.the-variants.{Fit, Singular, Pair}
 
 -- only the zero vector maps to zero
 abbrev pub Invertible : Matrix → Type 0
@@ -37,8 +37,12 @@ pub record FirstPair (code : Code) (count i j : ℕ) : Type 0 where
   pub singular : Invertible (add (X code i) (X code j)) → ⊥
   pub before : (k l : ℕ) → k < l → l < count → (k < i) ⊎ ((k ≡ i) × (l < j)) → Invertible (add (X code k) (X code l))
 
--- what each finding says
+-- what the places that a finding names say: none that the code is fit, one a singular matrix, two a pair
+abbrev pub Say : Code → ℕ → List ℕ → Type 0
+Say code count [] = Cone code count
+Say code count (i ∷ []) = FirstSingular code count i
+Say code count (i ∷ j ∷ []) = FirstPair code count i j
+Say code count (i ∷ j ∷ k ∷ rest) = ⊥
+
 abbrev pub Reports : Code → ℕ → Finding → Type 0
-Reports code count Fit = Cone code count
-Reports code count (Singular i) = FirstSingular code count i
-Reports code count (Pair i j) = FirstPair code count i j
+Reports code count g = Say code count (placesOf g)

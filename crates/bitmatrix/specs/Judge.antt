@@ -7,7 +7,8 @@ use mathlib.Core.List.{List, [], _∷_}
 use Prim.Native.Nat.{ℕ, zero, suc, _*_, _-_}
 use lib.Dec.{eqb, ltb}
 use lib.ListN.{getD}
-use Rattle.base.specs.Refusal.{Refusal, firstOf}
+use Rattle.base.specs.Choice.{choose}
+use Rattle.base.specs.Refusal.{Refusal, firstOf, Answer, answered}
 use Rattle.bitmatrix.specs.Fold.{fold, sum}
 use Rattle.bitmatrix.specs.Matrix.{Matrix, entry, add, singular}
 use Rattle.bitmatrix.specs.declared.Finding.{Finding}
@@ -82,10 +83,16 @@ refusal8 count = record { number = 8; applies = eqb count 0 || ltb 8 count }
 abbrev pub refusal : ℕ → ℕ
 refusal count = firstOf (refusal8 count ∷ [])
 
--- the paper's result number for each answer: 0 is done, any other refuses
-abbrev pub numberOf : Judgement → ℕ
-numberOf (Refused n) = n
-numberOf (Judged g n d) = 0
+-- the places that a finding names: none where the code is fit, a singular matrix, or a pair in its order
+abbrev pub placesOf : Finding → List ℕ
+placesOf Fit = []
+placesOf (Singular i) = i ∷ []
+placesOf (Pair i j) = i ∷ j ∷ []
+
+-- an answer in numbers: a refusal is its number alone; with result 0 come the ones, 1 or 0 for minimal or not, and the places of the finding
+abbrev pub answerOf : Judgement → Answer
+answerOf (Refused n) = record { number = n; values = [] }
+answerOf (Judged g n d) = record { number = 0; values = n ∷ choose d 1 0 ∷ placesOf g }
 
 -- the answer of a call: a result number above 0 refuses and brings no other news
 abbrev pub refusedOr : ℕ → Judgement → Judgement
@@ -97,7 +104,9 @@ judged code count =
     refusedOr (refusal count)
     (Judged (finding code count) (ones code count) (minimal (finding code count) (ones code count) count))
 
--- what the judge promises of its answer r: the result number is that of the first refusal that applies, and the whole answer is the one defined
+-- what the judge promises of its answer r: its number is that of the first refusal that applies and its values are what the code has; and the
+-- whole answer is the one defined
 pub record Judges (code : Code) (count : ℕ) (r : Judgement) : Type 0 where
-  pub number : numberOf r ≡ refusal count
-  pub answer : r ≡ judged code count
+  pub answer : answerOf r
+      ≡ answered (refusal count) (ones code count ∷ choose (minimal (finding code count) (ones code count) count) 1 0 ∷ placesOf (finding code count))
+  pub result : r ≡ judged code count

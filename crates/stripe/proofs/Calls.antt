@@ -2,9 +2,10 @@
 -- Assumes nothing.
 use mathlib.Core.Path.{_≡_, refl, sym, ap, _∙_}
 use mathlib.Core.Logic.{_≢_}
-use mathlib.Core.List.{List}
+use mathlib.Core.List.{List, [], _∷_}
 use Prim.Native.Nat.{ℕ, zero, suc}
 use lib.ListN.{length}
+use Rattle.base.specs.Refusal.{answered}
 use Rattle.base.proofs.Refused.{leaves-alone, leaves-done}
 use Rattle.shape.specs.declared.Geometry.{Geometry}
 use Rattle.shape.specs.Refusals.{checkRefusal}
@@ -12,22 +13,22 @@ use Rattle.stripe.specs.declared.Checked.{Checked}
 use Rattle.stripe.specs.declared.Checked.the-variants.{Refused, Summary}
 use Rattle.stripe.specs.Stripe.{verdicts}
 use Rattle.verdict.specs.Summary.{summary}
-use Rattle.stripe.specs.Calls.{numberOf, checkedOf, afterCheck, CheckCall}
+use Rattle.stripe.specs.Calls.{answerOf, checkedOf, afterCheck, CheckCall}
 
 checked-refused : (k v : ℕ) → k ≢ 0 → checkedOf k v ≡ Refused k
 checked-refused zero v n = absurd (n refl)
 checked-refused (suc k) v n = refl
 
-checked-number : (k v : ℕ) → numberOf (checkedOf k v) ≡ k
-checked-number zero v = refl
-checked-number (suc k) v = refl
+checked-answer : (k v : ℕ) → answerOf (checkedOf k v) ≡ answered k (v ∷ [])
+checked-answer zero v = refl
+checked-answer (suc k) v = refl
 
 module _ (g : Geometry) (s before : List ℕ) where
   abbrev refusal : ℕ
   refusal = checkRefusal g (length s) (length before)
 
   called : (r : Checked) (after : List ℕ) → r ≡ checkedOf refusal (summary (verdicts g s)) → after ≡ afterCheck g s before → CheckCall g s before r after
-  called r after e h = record { number = ap numberOf e ∙ checked-number refusal (summary (verdicts g s)); result = e; room = h }
+  called r after e h = record { answer = ap answerOf e ∙ checked-answer refusal (summary (verdicts g s)); result = e; room = h }
 
   pub check-refused : (k : ℕ) → k ≡ refusal → k ≢ 0 → CheckCall g s before (Refused k) before
   unfolding afterCheck

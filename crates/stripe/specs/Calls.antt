@@ -1,14 +1,14 @@
 -- What each call answers and leaves in every buffer that it is lent, refused or done.
 use Prim.Native.Nat.{ℕ, zero, suc}
 use mathlib.Core.Path.{_≡_}
-use mathlib.Core.List.{List}
+use mathlib.Core.List.{List, [], _∷_}
 use lib.ListN.{length}
 use Rattle.shape.specs.declared.Geometry.{Geometry}
 use Rattle.column.specs.declared.Lost.{Lost}
 use Rattle.shape.specs.declared.Naming.{Naming}
 use Rattle.shape.specs.declared.Naming.the-variants.{Loss, Wrong}
 use Rattle.shape.specs.Codes.{namingOf, namedRefusal}
-use Rattle.base.specs.Refusal.{unlessRefused}
+use Rattle.base.specs.Refusal.{unlessRefused, Answer, answered}
 use Rattle.stripe.specs.declared.Checked.{Checked}
 use Rattle.stripe.specs.declared.Checked.the-variants.{Refused, Summary}
 use Rattle.verdict.specs.Summary.{summary}
@@ -31,10 +31,10 @@ rebuiltBy g Wrong s = s
 unfoldable pub afterCheck : Geometry → List ℕ → List ℕ → List ℕ
 afterCheck g s room = unlessRefused (checkRefusal g (length s) (length room)) (verdicts g s) room
 
--- A check's answer: a refusal's number, or the summary. Its number as the other calls give theirs: 0 is done, any other refuses.
-abbrev pub numberOf : Checked → ℕ
-numberOf (Refused k) = k
-numberOf (Summary v) = 0
+-- A check's answer in numbers: a refusal is its number alone, and with result 0 comes the summary.
+abbrev pub answerOf : Checked → Answer
+answerOf (Refused k) = record { number = k; values = [] }
+answerOf (Summary v) = record { number = 0; values = v ∷ [] }
 
 abbrev pub checkedOf : ℕ → ℕ → Checked
 checkedOf zero v = Summary v
@@ -55,6 +55,6 @@ pub record RebuildNamedCall (g : Geometry) (first second : ℕ) (before : List �
   pub stripe : after ≡ rebuiltBy g (namingOf first second) before
 
 pub record CheckCall (g : Geometry) (s before : List ℕ) (r : Checked) (after : List ℕ) : Type 0 where
-  pub number : numberOf r ≡ checkRefusal g (length s) (length before)
+  pub answer : answerOf r ≡ answered (checkRefusal g (length s) (length before)) (summary (verdicts g s) ∷ [])
   pub result : r ≡ checkedOf (checkRefusal g (length s) (length before)) (summary (verdicts g s))
   pub room : after ≡ afterCheck g s before

@@ -6,14 +6,14 @@ use mathlib.Core.List.{List}
 use borrow.Author.Needs.{needs}
 use Rattle.shape.specs.declared.Geometry.{Geometry}
 use Rattle.stripe.specs.declared.Checked.{Checked}
-use Rattle.stripe.specs.Calls.{CheckCall}
+use Rattle.stripe.specs.Calls.{answerOf, CheckCall}
 use Rattle.bench_check.specs.Answer.{asNumber, BenchCheckCall}
 use Rattle.bench_check.proofs.bench_check.Statement.{statement}
 use Rattle.bench_check.proofs.bench_check.Tie as tie
 
 by-variant : (g : Geometry) (s before after : List ℕ) (found variant : Checked) → CheckCall g s before found after → found ≡ variant
-    → BenchCheckCall g s before (asNumber variant) after
-by-variant g s before after found variant call same = record { result = ap asNumber (sym same ∙ call .result); room = call .room }
+    → BenchCheckCall g s before (asNumber (answerOf variant)) after
+by-variant g s before after found variant call same = record { result = ap (λ (r : Checked). asNumber (answerOf r)) (sym same) ∙ ap asNumber (call .answer); room = call .room }
 
 check-requires : tie.Need-check-requires
 check-requires c κs = search needs

@@ -4,22 +4,23 @@ use mathlib.Core.Path.{_≡_, refl, sym, ap, _∙_}
 use mathlib.Core.Bool.{Bool, _&&_}
 use Prim.Native.Nat.{ℕ, zero, suc, _*_, _-_, _≤_}
 use lib.Dec.{eqb}
+use Rattle.base.specs.Refusal.{answered}
 use borrow.Author.Needs.{needs}
 use borrow.Author.Tests.{eq-eqb, ne-eqb, lt-ltb, le-ltb}
-use Rattle.bitmatrix.specs.Judge.{Code, finding, ones, minimal, refusal, numberOf, refusedOr, judged, Judges}
+use Rattle.bitmatrix.specs.Judge.{Code, finding, ones, minimal, refusal, answerOf, refusedOr, judged, Judges}
 use Rattle.bitmatrix.specs.declared.Finding.{Finding}
 use Rattle.bitmatrix.specs.declared.Judgement.{Judgement}
 use Rattle.bitmatrix.specs.declared.Judgement.the-variants.{Judged}
 use Rattle.bitmatrix.proofs.judge.Statement.{statement}
 use Rattle.bitmatrix.proofs.judge.Tie as tie
 
--- a call that is not refused has the result number 0
-numbered : (n : ℕ) (j : Judgement) → numberOf j ≡ 0 → numberOf (refusedOr n j) ≡ n
-numbered zero j e = e
-numbered (suc n) j e = refl
+-- a call that is not refused has the result number 0 and its values
+valued : (n : ℕ) (j : Judgement) → answerOf j .number ≡ 0 → answerOf (refusedOr n j) ≡ answered n (answerOf j .values)
+valued zero j e = ap (λ (k : ℕ). record { number = k; values = answerOf j .values }) e
+valued (suc n) j e = refl
 
 promised : {code : Code} {count : ℕ} {r : Judgement} → r ≡ judged code count → Judges code count r
-promised {code} {count} e = record { number = ap numberOf e ∙ numbered (refusal count) _ refl; answer = e }
+promised {code} {count} e = record { answer = ap answerOf e ∙ valued (refusal count) _ refl; result = e }
 
 done : (code : Code) (count : ℕ) {g : Finding} {n : ℕ} {d : Bool} → (count ≡ 0 → ⊥) → count ≤ 8
     → g ≡ finding code count → n ≡ ones code count → minimal g n count ≡ d → Judged g n d ≡ judged code count
