@@ -9,7 +9,7 @@ use native.Mathlib.Omega.{arith}
 use lib.Dec.{T, lit<, lit≤}
 use lib.Pow.{pow-pos, shl-lt, field, mod-mod-pow}
 use lib.Bits.{xor-lt}
-use Rattle.gf256.specs.Field.{bit, sum, double, carryless, remainder, product}
+use Rattle.gf256.specs.Field.{bit, sum, double, carryless, reduced, remainder, product}
 use Rattle.gf256.proofs.Check.{all, all-at, same, same-at}
 use Rattle.gf256.proofs.Xor.{Digit, off, on, parity}
 use Rattle.gf256.proofs.Additive.{Additive, additive-zero, additive-sum, additive-after, additive-shift, additive-shr, additive-mod, additive-digit, additive-times, agree}
@@ -34,9 +34,9 @@ remainder-additive : (k : ℕ) → Additive (remainder k)
 unfolding remainder
 remainder-additive zero = λ x y. refl
 remainder-additive (suc k) =
-    additive-after (remainder k) (λ c. sum (c % 2 ^ (8 + k)) (bit c (8 + k) * (0x1d * 2 ^ k))) (remainder-additive k)
-    (additive-sum (λ c. c % 2 ^ (8 + k)) (λ c. bit c (8 + k) * (0x1d * 2 ^ k)) (additive-mod (8 + k))
-    (additive-after (λ d. d % 2 * (0x1d * 2 ^ k)) (λ c. c / 2 ^ (8 + k)) (additive-digit (0x1d * 2 ^ k)) (additive-shr (8 + k))))
+    additive-after (remainder k) (λ c. sum (c % 2 ^ (8 + k)) (bit c (8 + k) * (reduced * 2 ^ k))) (remainder-additive k)
+    (additive-sum (λ c. c % 2 ^ (8 + k)) (λ c. bit c (8 + k) * (reduced * 2 ^ k)) (additive-mod (8 + k))
+    (additive-after (λ d. d % 2 * (reduced * 2 ^ k)) (λ c. c / 2 ^ (8 + k)) (additive-digit (reduced * 2 ^ k)) (additive-shr (8 + k))))
 
 pub product-left : (b : ℕ) → Additive (λ a. product a b)
 unfolding product
@@ -69,8 +69,8 @@ remainder-lt : (k c : ℕ) → c < 2 ^ (8 + k) → remainder k c < 256
 unfolding remainder
 remainder-lt zero c h = h
 remainder-lt (suc k) c h =
-    remainder-lt k (sum (c % 2 ^ (8 + k)) (bit c (8 + k) * (0x1d * 2 ^ k)))
-    (xor-lt (8 + k) (c % 2 ^ (8 + k)) (bit c (8 + k) * (0x1d * 2 ^ k)) (mod-lt c (pow-pos (8 + k)))
+    remainder-lt k (sum (c % 2 ^ (8 + k)) (bit c (8 + k) * (reduced * 2 ^ k)))
+    (xor-lt (8 + k) (c % 2 ^ (8 + k)) (bit c (8 + k) * (reduced * 2 ^ k)) (mod-lt c (pow-pos (8 + k)))
     (bit-times c (8 + k) (8 + k) (shl-lt 8 k (lit< tt))))
 
 pub product-lt : (a b : ℕ) → product a b < 256

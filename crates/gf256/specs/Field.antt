@@ -31,11 +31,14 @@ unfoldable pub carryless : ℕ → ℕ → ℕ → ℕ
 carryless zero a b = 0
 carryless (suc k) a b = sum (carryless k a b) (bit b k * (a % 256 * 2 ^ k))
 
--- The remainder modulo x^8 + x^4 + x^3 + x^2 + 1 of a polynomial of degree below 8 + k: from the top down, x^(8+k) is replaced by
--- x^k times x^4 + x^3 + x^2 + 1, which is 1d.
+-- what x^8 is replaced by: x^4 + x^3 + x^2 + 1
+abbrev pub reduced : ℕ
+reduced = 0x1d
+
+-- The remainder modulo x^8 + x^4 + x^3 + x^2 + 1 of a polynomial of degree below 8 + k: from the top down, x^(8+k) is replaced.
 unfoldable pub remainder : ℕ → ℕ → ℕ
 remainder zero c = c
-remainder (suc k) c = remainder k (sum (c % 2 ^ (8 + k)) (bit c (8 + k) * (0x1d * 2 ^ k)))
+remainder (suc k) c = remainder k (sum (c % 2 ^ (8 + k)) (bit c (8 + k) * (reduced * 2 ^ k)))
 
 -- The product: that of the polynomials, of degree below 16, reduced.
 unfoldable pub product : ℕ → ℕ → ℕ
