@@ -8,7 +8,7 @@ use borrow.Author.Tests.{eqb-true}
 use lib.Dec.{eqb}
 use Rattle.bitmatrix.specs.Fold.{fold, sum}
 use Rattle.bitmatrix.specs.Matrix.{Matrix, entry, component, apply, invertible}
-use Rattle.bitmatrix.specs.Judge.{Code, finding}
+use Rattle.bitmatrix.specs.Judge.{finding}
 use Rattle.bitmatrix.specs.Cone.{Cone, Permutation, FirstSingular, FirstPair, Reports}
 use Rattle.bitmatrix.specs.declared.Finding.the-variants.{Fit, Singular, Pair}
 use Rattle.base.specs.Table.{tabulate}

@@ -7,3 +7,4 @@ pub mod Columns
 pub mod Rebuild
 pub mod Series
 pub mod Verdicts
+pub mod Witnesses

@@ -1,11 +1,14 @@
--- A known device's role is one of the n + 2; a loss leaves the roles that it spares, and leaves symbols.
+-- A known device's role is one of the n + 2; a loss puts what is given on the roles that it names, leaves those that it spares, which are
+-- all others, and leaves symbols.
 -- Assumes nothing.
-use mathlib.Core.Path.{_≡_}
+use mathlib.Core.Path.{_≡_, refl}
 use mathlib.Core.Bool.{Bool, true, false}
 use Prim.Native.Nat.{ℕ, _+_, _^_, _<_}
 use native.Mathlib.Omega.{arith}
-use borrow.Author.Tests.{ne-eqb}
+use borrow.Author.Tests.{eq-eqb, ne-eqb, eqb-false}
+use lib.Dec.{eqb}
 use Rattle.base.specs.Choice.{choose}
+use Rattle.base.proofs.Choice.{either-false, either-comm}
 use Rattle.column.specs.declared.Device.{Device}
 use Rattle.column.specs.declared.Device.the-variants.{Data, P, Q}
 use Rattle.column.specs.declared.Lost.{Lost}
@@ -21,7 +24,23 @@ known-role n Q h = omega arith
 
 unnamed : (n : ℕ) (l : Lost) (r : ℕ) → Spared n l r → named n l r ≡ false
 unnamed n (One d) r s = ne-eqb r (roleOf n d) s
-unnamed n (Two d e) r s = rw (ne-eqb r (roleOf n d) (s .0)) (ne-eqb r (roleOf n e) (s .1))
+unnamed n (Two d e) r s = simp (ne-eqb r (roleOf n d) (s .0), ne-eqb r (roleOf n e) (s .1))
+
+pub spared-of : (n : ℕ) (l : Lost) (r : ℕ) → named n l r ≡ false → Spared n l r
+spared-of n (One d) r e = eqb-false r (roleOf n d) e
+spared-of n (Two d e) r h =
+    let apart = either-false (eqb r (roleOf n d)) (eqb r (roleOf n e)) h in (eqb-false r (roleOf n d) (apart .0), eqb-false r (roleOf n e) (apart .1))
+
+-- each device that is named has what was given
+pub overwrite-one : (n : ℕ) (d : Device) (junk c : Column) → overwrite n (One d) junk c (roleOf n d) ≡ junk (roleOf n d)
+overwrite-one n d junk c = rw (eq-eqb (roleOf n d) (roleOf n d) refl)
+
+pub overwrite-first : (n : ℕ) (d e : Device) (junk c : Column) → overwrite n (Two d e) junk c (roleOf n d) ≡ junk (roleOf n d)
+overwrite-first n d e junk c = rw (eq-eqb (roleOf n d) (roleOf n d) refl)
+
+pub overwrite-second : (n : ℕ) (d e : Device) (junk c : Column) → overwrite n (Two d e) junk c (roleOf n e) ≡ junk (roleOf n e)
+overwrite-second n d e junk c =
+    rw (eq-eqb (roleOf n e) (roleOf n e) refl, either-comm (eqb (roleOf n e) (roleOf n d)) true)
 
 pub overwrite-spares : (n : ℕ) (l : Lost) (junk c : Column) (r : ℕ) → Spared n l r → overwrite n l junk c r ≡ c r
 overwrite-spares n l junk c r s = rw (unnamed n l r s)

@@ -65,21 +65,21 @@ module _ (g : Geometry) (s : List ℕ) (fits : encodeRefusal g (length s) ≡ 0)
       (λ i r hi hr.
       after-encode i r hi hr ∙ ap (λ (c : Column). c r) (encode-fixed reedSolomon 8 255 reed-solomon (g .n) (whole .disks) (column g s i) (enc i hi)))
 
--- ---- rebuild: what an accepted call promises of the stripe that it leaves
-pub record Rebuilt (g : Geometry) (l : Lost) (s : List ℕ) : Type 0 where
+-- ---- rebuild: what an accepted call promises of the stripe t that it leaves of s
+pub record Rebuilt (g : Geometry) (l : Lost) (s t : List ℕ) : Type 0 where
   -- no other device changes
-  pub spares : (i r : ℕ) → i < g .b → r < g .n + 2 → Spared (g .n) l r → column g (afterRebuild g l s) i r ≡ column g s i r
+  pub spares : (i r : ℕ) → i < g .b → r < g .n + 2 → Spared (g .n) l r → column g t i r ≡ column g s i r
   -- the new bytes meet the equations used, with two devices named both
-  pub meets : (i : ℕ) → i < g .b → Meets reedSolomon (g .n) l (column g (afterRebuild g l s) i)
+  pub meets : (i : ℕ) → i < g .b → Meets reedSolomon (g .n) l (column g t i)
   -- and are the only ones that do so with the survivors
-  pub only : (t : List ℕ) → Bytes t → length t ≡ length s
-      → ((i r : ℕ) → i < g .b → r < g .n + 2 → Spared (g .n) l r → column g t i r ≡ column g s i r)
-      → ((i : ℕ) → i < g .b → Meets reedSolomon (g .n) l (column g t i))
-      → t ≡ afterRebuild g l s
+  pub only : (u : List ℕ) → Bytes u → length u ≡ length s
+      → ((i r : ℕ) → i < g .b → r < g .n + 2 → Spared (g .n) l r → column g u i r ≡ column g s i r)
+      → ((i : ℕ) → i < g .b → Meets reedSolomon (g .n) l (column g u i))
+      → u ≡ t
   -- what stood on the named devices has no influence
-  pub blind : (t : List ℕ) → Bytes t → length t ≡ length s
-      → ((i r : ℕ) → i < g .b → r < g .n + 2 → Spared (g .n) l r → column g t i r ≡ column g s i r)
-      → afterRebuild g l t ≡ afterRebuild g l s
+  pub blind : (u : List ℕ) → Bytes u → length u ≡ length s
+      → ((i r : ℕ) → i < g .b → r < g .n + 2 → Spared (g .n) l r → column g u i r ≡ column g s i r)
+      → afterRebuild g l u ≡ t
 
 module _ (g : Geometry) (l : Lost) (s : List ℕ) (accepted : rebuildRefusal g (length s) l ≡ 0) where
   sound : KnownLoss (g .n) l
@@ -95,7 +95,7 @@ module _ (g : Geometry) (l : Lost) (s : List ℕ) (accepted : rebuildRefusal g (
   after-rebuild = rebuild-lifts g l s accepted .columns
 
 module _ (g : Geometry) (l : Lost) (s : List ℕ) (bytes : Bytes s) (accepted : rebuildRefusal g (length s) l ≡ 0) where
-  pub demand2 : Rebuilt g l s
+  pub demand2 : Rebuilt g l s (afterRebuild g l s)
   demand2 =
       record {
         spares = λ i r hi hr sp. after-rebuild g l s accepted i r hi hr ∙ rebuild-spares reedSolomon (g .n) l (column g s i) r sp;

@@ -5,3 +5,5 @@ pub mod Series
 pub mod Demand3
 pub mod Demand2
 pub mod Checks
+pub mod Called
+pub mod Witnesses

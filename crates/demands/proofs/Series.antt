@@ -85,7 +85,7 @@ module _ (L : Layout) (code : Code) (w : ℕ) (lay : LawfulLayout L w) (s : List
     last-accepted : (k p : ℕ) → k < L .disks → p < L .block → blockOf L (run ms s) k p ≡ valueOr (blockOf L s k p) (latest ms k p)
     last-accepted = gives-last ms s allowed start
 
-    claim : Claim L code s ms
+    claim : Claim L code s ms (run ms s)
     claim =
         record {
           contents = contents;

@@ -1,3 +1,4 @@
 pub mod Layout
 pub mod Series
 pub mod Members
+pub mod Called

@@ -62,14 +62,14 @@ abbrev pub latest : List Member → ℕ → ℕ → Latest
 latest [] k p = none
 latest (m ∷ ms) k p = later (m .gives k p) (latest ms k p)
 
--- The claim of demand 3 about a whole series: the data are the table's, and P and Q differ from the equations over the table by what
--- they differed at the start.
-pub record Claim (L : Layout) (code : Code) (s : List ℕ) (ms : List Member) : Type 0 where
-  pub contents : (k p : ℕ) → k < L .disks → p < L .block → blockOf L (run ms s) k p ≡ tableAfter L ms s k p
+-- The claim of demand 3 about a whole series from s, which ends with t: the data are the table's, and P and Q differ from the equations over
+-- the table by what they differed at the start.
+pub record Claim (L : Layout) (code : Code) (s : List ℕ) (ms : List Member) (t : List ℕ) : Type 0 where
+  pub contents : (k p : ℕ) → k < L .disks → p < L .block → blockOf L t k p ≡ tableAfter L ms s k p
   pub first : (i : ℕ) → i < L .columns
-      → columnOf L (run ms s) i (L .disks) ≡ sum (parityP (L .disks) (λ k. L .symbol (tableAfter L ms s k) i)) (syndromeP (L .disks) (columnOf L s i))
+      → columnOf L t i (L .disks) ≡ sum (parityP (L .disks) (λ k. L .symbol (tableAfter L ms s k) i)) (syndromeP (L .disks) (columnOf L s i))
   pub second : (i : ℕ) → i < L .columns
-      → columnOf L (run ms s) i (L .disks + 1)
+      → columnOf L t i (L .disks + 1)
       ≡ sum (parityQ code (L .disks) (λ k. L .symbol (tableAfter L ms s k) i)) (syndromeQ code (L .disks) (columnOf L s i))
 
 -- no data byte is given a value by both
@@ -88,7 +88,7 @@ pub data Without : List Member → List Member → Type 0 where
 
 -- What demand 3 says of every series from the stripe s whose members are all allowed: the claim, and what follows from it.
 pub record EverySeries (L : Layout) (code : Code) (s : List ℕ) (Allowed : Member → Type 0) : Type 0 where
-  pub claim : (ms : List Member) → All Allowed ms → Claim L code s ms
+  pub claim : (ms : List Member) → All Allowed ms → Claim L code s ms (run ms s)
   -- each data byte is the last value accepted for it, or its first where there was none
   pub last-accepted : (ms : List Member) → All Allowed ms → (k p : ℕ) → k < L .disks → p < L .block
       → blockOf L (run ms s) k p ≡ valueOr (blockOf L s k p) (latest ms k p)
