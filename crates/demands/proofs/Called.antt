@@ -32,8 +32,9 @@ use Rattle.stripe.specs.Calls.{afterRebuild, rebuiltBy, EncodeCall, RebuildCall
 use Rattle.demands.specs.Layout.{layoutOf}
 use Rattle.demands.specs.Series.{Bytes, EncodedStripe, Member, run, All, latest, Claim, EverySeries}
 use Rattle.demands.specs.Members.{lose, Allowed, write, refused, loss, AllowedFrom}
+use Rattle.demands.specs.Demand2.{Rebuilt}
 use Rattle.demands.specs.Called.{Slice, Loses, Step, writes, refuses, refuses-codes, rebuilds, Steps, done, next, Calls, Called}
-use Rattle.demands.proofs.Demand2.{Rebuilt, encode-meets, encode-keeps-data, demand2}
+use Rattle.demands.proofs.Demand2.{encode-meets, encode-keeps-data, demand2}
 use Rattle.demands.proofs.Demand3.{demand3}
 
 -- ---- what a slice holds is bytes, and bytes are what a slice may hold

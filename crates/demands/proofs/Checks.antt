@@ -22,16 +22,10 @@ use Rattle.shape.proofs.Refused.{well-shaped, check-accepted}
 use Rattle.column.proofs.Put.{put-same, put-other}
 use Rattle.column.specs.Loss.{Spared, KnownLoss}
 use Rattle.demands.specs.Series.{Bytes}
+use Rattle.demands.specs.Demand2.{SameColumn, rightVerdict}
 use Rattle.column.specs.Lawful.{Symbols}
 use Rattle.demands.proofs.Bytes.{columns-symbols}
-use Rattle.demands.proofs.Demand2.{SameColumn}
 use Rattle.column.proofs.Verdicts.{verdict-zero, verdict-p, verdict-q, verdict-data, verdict-local}
-
--- the verdict that names a device
-abbrev pub rightVerdict : Device → ℕ
-rightVerdict (Data z) = 16 + z
-rightVerdict P = 1
-rightVerdict Q = 2
 
 -- the device of a column that no longer has its byte is named
 verdict-right : (n : ℕ) → n ≤ 255 → (c : Column) → Symbols 8 c → Encoded reedSolomon n c → (v : ℕ) → v < 256 → (d : Device)

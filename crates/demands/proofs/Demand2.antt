@@ -30,9 +30,10 @@ use Rattle.shape.proofs.Refused.{well-shaped, write-accepted, rebuild-accepted}
 use Rattle.column.proofs.Loss.{known-role}
 use Rattle.column.proofs.Put.{put-same}
 use Rattle.column.proofs.Total.{total-same}
-use Rattle.column.specs.Loss.{Spared, KnownLoss, Meets}
+use Rattle.column.specs.Loss.{KnownLoss}
 use Rattle.demands.specs.Layout.{layoutOf}
 use Rattle.demands.specs.Series.{Bytes, EncodedStripe}
+use Rattle.demands.specs.Demand2.{Rebuilt, SameColumn}
 use Rattle.column.proofs.ReedSolomon.{reed-solomon}
 use Rattle.column.proofs.Columns.{encode-data, encode-encoded, encode-fixed, encoded-same, write-same}
 use Rattle.column.proofs.Rebuild.{rebuild-spares, rebuild-meets, rebuild-only, rebuild-blind, rebuild-order, meets-same}
@@ -65,22 +66,7 @@ module _ (g : Geometry) (s : List ℕ) (fits : encodeRefusal g (length s) ≡ 0)
       (λ i r hi hr.
       after-encode i r hi hr ∙ ap (λ (c : Column). c r) (encode-fixed reedSolomon 8 255 reed-solomon (g .n) (whole .disks) (column g s i) (enc i hi)))
 
--- ---- rebuild: what an accepted call promises of the stripe t that it leaves of s
-pub record Rebuilt (g : Geometry) (l : Lost) (s t : List ℕ) : Type 0 where
-  -- no other device changes
-  pub spares : (i r : ℕ) → i < g .b → r < g .n + 2 → Spared (g .n) l r → column g t i r ≡ column g s i r
-  -- the new bytes meet the equations used, with two devices named both
-  pub meets : (i : ℕ) → i < g .b → Meets reedSolomon (g .n) l (column g t i)
-  -- and are the only ones that do so with the survivors
-  pub only : (u : List ℕ) → Bytes u → length u ≡ length s
-      → ((i r : ℕ) → i < g .b → r < g .n + 2 → Spared (g .n) l r → column g u i r ≡ column g s i r)
-      → ((i : ℕ) → i < g .b → Meets reedSolomon (g .n) l (column g u i))
-      → u ≡ t
-  -- what stood on the named devices has no influence
-  pub blind : (u : List ℕ) → Bytes u → length u ≡ length s
-      → ((i r : ℕ) → i < g .b → r < g .n + 2 → Spared (g .n) l r → column g u i r ≡ column g s i r)
-      → afterRebuild g l u ≡ t
-
+-- ---- rebuild
 module _ (g : Geometry) (l : Lost) (s : List ℕ) (accepted : rebuildRefusal g (length s) l ≡ 0) where
   sound : KnownLoss (g .n) l
   sound = rebuild-accepted g (length s) l accepted .1
@@ -196,9 +182,6 @@ codes-in-any-order g first second s bytes a b = (
 )
 
 -- ---- after an accepted call column i depends on the earlier column i, the call's numbers and, for a write, the new byte there
-abbrev pub SameColumn : Geometry → ℕ → List ℕ → List ℕ → Type 0
-SameColumn g i s t = (r : ℕ) → r < g .n + 2 → column g s i r ≡ column g t i r
-
 pub encode-local : (g : Geometry) (s t : List ℕ) → Bytes s → Bytes t → length t ≡ length s → encodeRefusal g (length s) ≡ 0 → (i : ℕ) → i < g .b
     → SameColumn g i s t
     → SameColumn g i (afterEncode g s) (afterEncode g t)

@@ -1,4 +1,5 @@
 pub mod Layout
 pub mod Series
 pub mod Members
+pub mod Demand2
 pub mod Called
