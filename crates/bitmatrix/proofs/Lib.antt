@@ -9,6 +9,7 @@ pub mod Reports
 pub mod Fit
 pub mod Onto
 pub mod Rebuild
+pub mod System
 pub mod Places
 pub mod Permutations
 pub mod Witnesses

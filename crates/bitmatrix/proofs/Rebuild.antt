@@ -1,14 +1,15 @@
--- What a fit code loses can be rebuilt (000, lemma 3.1.2). The difference of two solutions is a vector that a matrix, or a sum of two, sends to
--- zero, so there is at most one; and a matrix that sends only zero to zero reaches every vector, so there is one.
+-- Two devices of a fit code are determined by what they add to the two equations. The difference of two solutions is a vector that a matrix,
+-- or a sum of two, sends to zero, so there is at most one; and a matrix that sends only zero to zero reaches every vector, so there is one.
 -- Assumes nothing.
 use mathlib.Core.Path.{_≡_, refl, sym, ap, ap₂, _∙_}
+use mathlib.Core.Logic.{_≢_}
 use Prim.Native.Nat.{ℕ, _%_, _+_, _<_}
 use native.Mathlib.Omega.{arith}
 use lib.Bits.{bitXor, xor-comm, xor-lt, xor-self, xor-zero-r}
 use Rattle.bitmatrix.specs.Matrix.{Matrix, bit, apply, add}
 use Rattle.bitmatrix.specs.Judge.{Code, X, finding}
 use Rattle.bitmatrix.specs.Cone.{Invertible, Cone}
-use Rattle.bitmatrix.specs.Rebuild.{Device, Word, P, Q, inFirst, inSecond, Meets, Rebuilt, Rebuilds}
+use Rattle.bitmatrix.specs.Rebuild.{Device, Word, P, Q, Known}
 use Rattle.bitmatrix.specs.declared.Finding.the-variants.{Fit}
 use Rattle.bitmatrix.proofs.Bits.{bits-ext, bit-xor}
 use Rattle.bitmatrix.proofs.Linear.{apply-lt, apply-add, apply-sum}
@@ -27,7 +28,7 @@ xor-swap p q r s e =
     ∙ parity-swap (bit p c) (bit q c) (bit r c) (bit s c) (sym (bit-xor p q c) ∙ ap (λ (x : ℕ). bit x c) e ∙ bit-xor r s c)
     ∙ sym (bit-xor q s c))
 
-xor-zero : (a b : ℕ) → bitXor a b ≡ 0 → a ≡ b
+pub xor-zero : (a b : ℕ) → bitXor a b ≡ 0 → a ≡ b
 xor-zero a b e = sym (xor-zero-r a) ∙ xor-swap a b 0 0 e ∙ xor-zero-r b
 
 -- M a determines a
@@ -85,9 +86,32 @@ cancel u q = solve u u q q (xor-self u ∙ sym (xor-self q))
 other : (u v q : ℕ) → bitXor u v ≡ q → v ≡ bitXor q u
 other u v q e = sym (xor-comm q u ∙ xor-swap u v q 0 (e ∙ sym (xor-zero-r q)) ∙ xor-zero-r v)
 
+-- what a device that holds a adds to each equation, where both sides are brought to one
+abbrev pub inFirst : Device → ℕ → ℕ
+inFirst (Word i) a = a
+inFirst P a = a
+inFirst Q a = 0
+
+abbrev pub inSecond : Code → Device → ℕ → ℕ
+inSecond code (Word i) a = apply (X code i) a
+inSecond code P a = 0
+inSecond code Q a = a
+
+-- a on device d and b on device e add up to p and q
+pub record Sums (code : Code) (d e : Device) (p q a b : ℕ) : Type 0 where
+  pub first : bitXor (inFirst d a) (inFirst e b) ≡ p
+  pub second : bitXor (inSecond code d a) (inSecond code e b) ≡ q
+
+pub record Solved (code : Code) (d e : Device) (p q : ℕ) : Type 0 where
+  pub a : ℕ
+  pub b : ℕ
+  pub bytes : (a < 256) × (b < 256)
+  pub meets : Sums code d e p q a b
+  pub only : (x y : ℕ) → x < 256 → y < 256 → Sums code d e p q x y → (x ≡ a) × (y ≡ b)
+
 module _ (code : Code) (p q : ℕ) (hp : p < 256) (hq : q < 256) where
-  rebuilt-back : (d e : Device) → Rebuilt code d e p q → Rebuilt code e d p q
-  rebuilt-back d e r =
+  solved-back : (d e : Device) → Solved code d e p q → Solved code e d p q
+  solved-back d e r =
       record {
         a = r .b;
         b = r .a;
@@ -96,14 +120,14 @@ module _ (code : Code) (p q : ℕ) (hp : p < 256) (hq : q < 256) where
         only = λ x y hx hy m. let same = r .only y x hy hx (back e d x y m) in (same .1, same .0);
       }
     where
-      back : (d e : Device) (a b : ℕ) → Meets code d e p q a b → Meets code e d p q b a
+      back : (d e : Device) (a b : ℕ) → Sums code d e p q a b → Sums code e d p q b a
       back d e a b m =
           record {
             first = xor-comm (inFirst e b) (inFirst d a) ∙ m .first;
             second = xor-comm (inSecond code e b) (inSecond code d a) ∙ m .second;
           }
 
-  both-words : (i j : ℕ) → Invertible (add (X code i) (X code j)) → Rebuilt code (Word i) (Word j) p q
+  both-words : (i j : ℕ) → Invertible (add (X code i) (X code j)) → Solved code (Word i) (Word j) p q
   both-words i j h =
       record {
         a = a;
@@ -120,7 +144,7 @@ module _ (code : Code) (p q : ℕ) (hp : p < 256) (hq : q < 256) where
       a : ℕ
       a = t .at
 
-      meets : Meets code (Word i) (Word j) p q a (bitXor p a)
+      meets : Sums code (Word i) (Word j) p q a (bitXor p a)
       meets =
           record {
             first = cancel a p;
@@ -130,7 +154,7 @@ module _ (code : Code) (p q : ℕ) (hp : p < 256) (hq : q < 256) where
           }
 
   -- the word by Q, then P
-  word-and-P : (i : ℕ) → Invertible (X code i) → Rebuilt code (Word i) P p q
+  word-and-P : (i : ℕ) → Invertible (X code i) → Solved code (Word i) P p q
   word-and-P i h =
       let t = reaches (X code i) h q hq in
       record {
@@ -144,7 +168,7 @@ module _ (code : Code) (p q : ℕ) (hp : p < 256) (hq : q < 256) where
       }
 
   -- the word by P, then Q
-  word-and-Q : (i : ℕ) → Rebuilt code (Word i) Q p q
+  word-and-Q : (i : ℕ) → Solved code (Word i) Q p q
   word-and-Q i =
       record {
         a = p;
@@ -157,7 +181,7 @@ module _ (code : Code) (p q : ℕ) (hp : p < 256) (hq : q < 256) where
       }
 
   -- both from the words
-  P-and-Q : Rebuilt code P Q p q
+  P-and-Q : Solved code P Q p q
   P-and-Q =
       record {
         a = p;
@@ -167,19 +191,23 @@ module _ (code : Code) (p q : ℕ) (hp : p < 256) (hq : q < 256) where
         only = λ x y hx hy m. (sym (xor-zero-r x) ∙ m .first, m .second);
       }
 
-pub fit-rebuilds : (code : Code) (count : ℕ) → finding code count ≡ Fit → Rebuilds code count
-fit-rebuilds code count e = go
+pub pair-solved : (code : Code) (count : ℕ) → finding code count ≡ Fit → (d e : Device) → Known count d → Known count e → d ≢ e
+    → (p q : ℕ)
+    → p < 256
+    → q < 256
+    → Solved code d e p q
+pair-solved code count e = go
   where
     cone : Cone code count
     cone = fit-cone code count .0 e
 
-    go : Rebuilds code count
+    go : (d e : Device) → Known count d → Known count e → d ≢ e → (p q : ℕ) → p < 256 → q < 256 → Solved code d e p q
     go (Word i) (Word j) li lj n p q hp hq = both-words code p q hp hq i j (cone .sums i j li lj (λ s. n (ap Word s)))
     go (Word i) P li _ n p q hp hq = word-and-P code p q hp hq i (cone .each i li)
     go (Word i) Q li _ n p q hp hq = word-and-Q code p q hp hq i
-    go P (Word j) _ lj n p q hp hq = rebuilt-back code p q hp hq (Word j) P (word-and-P code p q hp hq j (cone .each j lj))
+    go P (Word j) _ lj n p q hp hq = solved-back code p q hp hq (Word j) P (word-and-P code p q hp hq j (cone .each j lj))
     go P P _ _ n p q hp hq = absurd (n refl)
     go P Q _ _ n p q hp hq = P-and-Q code p q hp hq
-    go Q (Word j) _ lj n p q hp hq = rebuilt-back code p q hp hq (Word j) Q (word-and-Q code p q hp hq j)
-    go Q P _ _ n p q hp hq = rebuilt-back code p q hp hq P Q (P-and-Q code p q hp hq)
+    go Q (Word j) _ lj n p q hp hq = solved-back code p q hp hq (Word j) Q (word-and-Q code p q hp hq j)
+    go Q P _ _ n p q hp hq = solved-back code p q hp hq P Q (P-and-Q code p q hp hq)
     go Q Q _ _ n p q hp hq = absurd (n refl)

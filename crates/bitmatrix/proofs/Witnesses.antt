@@ -1,6 +1,7 @@
 -- What the theorems about the judge suppose can be met: each definition has an example, which the definitions compute.
 -- Assumes nothing.
 use mathlib.Core.Path.{_≡_, refl, subst}
+use mathlib.Core.Logic.{_≢_}
 use mathlib.Core.Bool.{true, _&&_}
 use mathlib.Core.List.{[], _∷_}
 use Prim.Native.Nat.{ℕ, _<_}
@@ -11,14 +12,14 @@ use Rattle.bitmatrix.specs.Fold.{fold, sum}
 use Rattle.bitmatrix.specs.Matrix.{Matrix, entry, component, apply, invertible}
 use Rattle.bitmatrix.specs.Judge.{finding}
 use Rattle.bitmatrix.specs.Cone.{Cone, Permutation, FirstSingular, FirstPair, Reports}
-use Rattle.bitmatrix.specs.Rebuild.{Device, Word, P, Q, Known, Rebuilt}
+use Rattle.bitmatrix.specs.Rebuild.{Device, Word, P, Q, Known, Held, Bytes, Rebuilt}
 use Rattle.bitmatrix.specs.declared.Finding.the-variants.{Fit, Singular, Pair}
 use Rattle.base.specs.Table.{tabulate}
 use Rattle.bitmatrix.proofs.Fold.{none-fold}
 use Rattle.bitmatrix.proofs.Invertible.{and-true}
 use Rattle.bitmatrix.proofs.Reports.{reported}
 use Rattle.bitmatrix.proofs.Fit.{fit-cone}
-use Rattle.bitmatrix.proofs.Rebuild.{fit-rebuilds}
+use Rattle.bitmatrix.proofs.System.{fit-rebuilds}
 
 abbrev pub identity : Matrix
 identity = 1 ∷ 2 ∷ 4 ∷ 8 ∷ 16 ∷ 32 ∷ 64 ∷ 128 ∷ []
@@ -64,12 +65,12 @@ pub a-first-singular : FirstSingular (identity ∷ zeros ∷ []) 2 1
 a-first-singular = subst (Reports (identity ∷ zeros ∷ []) 2) found-singular (reported (identity ∷ zeros ∷ []) 2)
 
 -- both words, a word and a parity, and both parities of such a code
-module _ (p q : ℕ) (hp : p < 256) (hq : q < 256) where
+module _ (s : Held) (bytes : Bytes 2 s) where
   abbrev Found : Device → Device → Type 0
-  Found d e = Rebuilt (identity ∷ double ∷ []) d e p q
+  Found d e = Rebuilt (identity ∷ double ∷ []) 2 d e s
 
-  rebuilt : (d e : Device) → Known 2 d → Known 2 e → (d ≡ e → ⊥) → Found d e
-  rebuilt d e hd he apart = fit-rebuilds (identity ∷ double ∷ []) 2 found-fit d e hd he apart p q hp hq
+  rebuilt : (d e : Device) → Known 2 d → Known 2 e → d ≢ e → Found d e
+  rebuilt d e hd he apart = fit-rebuilds (identity ∷ double ∷ []) 2 found-fit d e hd he apart s bytes
 
   pub two-words-rebuilt : Found (Word 0) (Word 1)
   two-words-rebuilt = rebuilt (Word 0) (Word 1) (omega arith) (omega arith) (λ e. let z : _≡_ {A = ℕ} 0 1 = cc in omega arith)

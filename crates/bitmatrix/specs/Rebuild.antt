@@ -1,11 +1,11 @@
--- What it is that two lost devices of a bit-matrix code can be rebuilt (000, lemma 3.1.2).
--- A code has two equations: its words and P sum to zero, and so do X_k times word k, for each k, and Q. So the symbols of two lost devices
--- sum, in each, to what those of the others sum to: p in the first equation and q in the second. A word that is lost alone is rebuilt as it
--- is with Q, by the first equation, or as it is with P, by the second.
+-- What it is that two lost devices of a bit-matrix code can be rebuilt (000, lemma 3.1.2): its system of parity equations (7) has one
+-- solution, whichever two devices are lost and whatever the others hold. A word that is lost alone is lost with a parity that is right.
 -- Assumes nothing.
 use mathlib.Core.Path.{_≡_}
+use mathlib.Core.Logic.{_≢_}
 use Prim.Native.Nat.{ℕ, _<_}
 use lib.Bits.{bitXor}
+use Rattle.bitmatrix.specs.Fold.{fold}
 use Rattle.bitmatrix.specs.Matrix.{apply}
 use Rattle.bitmatrix.specs.Judge.{Code, X}
 
@@ -20,31 +20,33 @@ Known count (Word i) = i < count
 Known count P = Unit {0}
 Known count Q = Unit {0}
 
--- what a device that holds a adds to each equation
-abbrev pub inFirst : Device → ℕ → ℕ
-inFirst (Word i) a = a
-inFirst P a = a
-inFirst Q a = 0
+-- what each device holds
+abbrev pub Held : Type 0
+Held = Device → ℕ
 
-abbrev pub inSecond : Code → Device → ℕ → ℕ
-inSecond code (Word i) a = apply (X code i) a
-inSecond code P a = 0
-inSecond code Q a = a
+abbrev pub Bytes : ℕ → Held → Type 0
+Bytes count s = (x : Device) → Known count x → s x < 256
 
--- a on device d and b on device e meet both equations with the others
-pub record Meets (code : Code) (d e : Device) (p q a b : ℕ) : Type 0 where
-  pub first : bitXor (inFirst d a) (inFirst e b) ≡ p
-  pub second : bitXor (inSecond code d a) (inSecond code e b) ≡ q
+-- the exclusive or of f 0, f 1, .., f (n - 1)
+abbrev pub xors : ℕ → (ℕ → ℕ) → ℕ
+xors = fold bitXor 0
 
--- there are bytes that do, and no others do
-pub record Rebuilt (code : Code) (d e : Device) (p q : ℕ) : Type 0 where
-  pub a : ℕ
-  pub b : ℕ
-  pub bytes : (a < 256) × (b < 256)
-  pub meets : Meets code d e p q a b
-  pub only : (x y : ℕ) → x < 256 → y < 256 → Meets code d e p q x y → (x ≡ a) × (y ≡ b)
+-- equations (7): P is the sum of the words, and Q that of X_k times word k
+pub record Meets (code : Code) (count : ℕ) (s : Held) : Type 0 where
+  pub first : s P ≡ xors count (λ k. s (Word k))
+  pub second : s Q ≡ xors count (λ k. apply (X code k) (s (Word k)))
 
--- any two devices can be rebuilt, whatever the others hold
+-- t has what s has on the devices other than d and e
+abbrev pub Survive : Device → Device → Held → Held → Type 0
+Survive d e s t = (x : Device) → x ≢ d → x ≢ e → t x ≡ s x
+
+-- with what s has on the others, d and e can hold bytes that meet both equations, and these alone
+pub record Rebuilt (code : Code) (count : ℕ) (d e : Device) (s : Held) : Type 0 where
+  pub held : Held
+  pub bytes : Bytes count held
+  pub survive : Survive d e s held
+  pub meets : Meets code count held
+  pub only : (t : Held) → Bytes count t → Survive d e s t → Meets code count t → (x : Device) → Known count x → t x ≡ held x
+
 abbrev pub Rebuilds : Code → ℕ → Type 0
-Rebuilds code count =
-    (d e : Device) → Known count d → Known count e → (d ≡ e → ⊥) → (p q : ℕ) → p < 256 → q < 256 → Rebuilt code d e p q
+Rebuilds code count = (d e : Device) → Known count d → Known count e → d ≢ e → (s : Held) → Bytes count s → Rebuilt code count d e s
