@@ -31,9 +31,9 @@ use Rattle.stripe.specs.Stripe.{rebuilt}
 use Rattle.stripe.specs.Calls.{afterRebuild, rebuiltBy, EncodeCall, RebuildCall, RebuildNamedCall}
 use Rattle.demands.specs.Layout.{layoutOf}
 use Rattle.demands.specs.Series.{Bytes, EncodedStripe, Member, run, All, latest, Claim, EverySeries}
-use Rattle.demands.specs.Members.{lose, Allowed, write, refused, loss, AllowedFrom}
+use Rattle.demands.specs.Members.{lose, lossMember, Allowed, write, refused, loss, AllowedFrom}
 use Rattle.demands.specs.Demand2.{Rebuilt}
-use Rattle.demands.specs.Called.{Slice, Loses, Step, writes, refuses, refuses-codes, rebuilds, Steps, done, next, Calls, Called}
+use Rattle.demands.specs.Called.{Slice, Loses, Step, writes, refuses, refuses-codes, rebuilds, rebuilds-codes, Steps, done, next, Calls, Called}
 use Rattle.demands.proofs.Demand2.{encode-meets, encode-keeps-data, demand2}
 use Rattle.demands.proofs.Demand3.{demand3}
 
@@ -77,25 +77,41 @@ lose-is g lost s t shaped loses =
     at i r hi hr true e = refl
     at i r hi hr false e = sym (loses .spared i r hi hr (spared-of (g .n) lost r e))
 
+-- a rebuild by codes that name a loss is a rebuild of that loss
+by-codes : (g : Geometry) {first second : ℕ} {lost : Lost} {s : List ℕ} {r : ℕ} {t : List ℕ} → namingOf first second ≡ Loss lost
+    → RebuildNamedCall g first second s r t
+    → RebuildCall g lost s r t
+by-codes g {s = s} e call =
+    record { result = call .result ∙ ap (namedRefusal g (length s)) e; stripe = call .stripe ∙ ap (λ (n : Naming). rebuiltBy g n s) e }
+
 module _ (g : Geometry) (encoded : Type 0) where
   step-runs : {s t : List ℕ} {m : Member} → WellShaped g s → Step g encoded s m t → t ≡ m .runs s
   step-runs shaped (writes h disk offset new r hn same call) = call .stripe
   step-runs shaped (refuses h lost r n call) = call .stripe
   step-runs shaped (refuses-codes h first second r n call) = call .stripe
   step-runs {s} shaped (rebuilds lost left enc loses call) = call .stripe ∙ ap (afterRebuild g lost) (sym (lose-is g lost s left shaped loses))
+  step-runs {s} shaped (rebuilds-codes first second lost left enc named loses call) =
+      by-codes g named call .stripe ∙ ap (afterRebuild g lost) (sym (lose-is g lost s left shaped loses))
 
   step-long : {s t : List ℕ} {m : Member} → Step g encoded s m t → length t ≡ length s
   step-long {s} (writes h disk offset new r hn same call) = ap length (call .stripe) ∙ write-long h disk offset new s
   step-long {s} (refuses h lost r n call) = ap length (call .stripe) ∙ rebuild-long h lost s
   step-long {s} (refuses-codes h first second r n call) = ap length (call .stripe) ∙ named-long h (namingOf first second) s
   step-long {s} (rebuilds lost left enc loses call) = ap length (call .stripe) ∙ rebuild-long g lost left ∙ loses .long
+  step-long {s} (rebuilds-codes first second lost left enc named loses call) =
+      ap length (call .stripe) ∙ named-long g (namingOf first second) left ∙ loses .long
 
-  step-allowed : {s t : List ℕ} {m : Member} → Step g encoded s m t → Allowed g (length s) encoded m
+  loss-allowed : {s t : List ℕ} (lost : Lost) (left : List ℕ) → encoded → Loses g lost s left → RebuildCall g lost left 0 t
+      → Allowed g (length s) encoded (lossMember g lost left)
+  loss-allowed lost left enc loses call =
+      loss lost left (slice-bytes left (loses .bytes)) (ap (λ (n : ℕ). rebuildRefusal g n lost) (sym (loses .long)) ∙ sym (call .result)) enc
+
+  pub step-allowed : {s t : List ℕ} {m : Member} → Step g encoded s m t → Allowed g (length s) encoded m
   step-allowed (writes h disk offset new r hn same call) = write h disk offset new (slice-bytes new hn) (λ e. same (call .result ∙ e))
   step-allowed (refuses h lost r n call) = refused h (Loss lost) (λ e. n (call .result ∙ e))
   step-allowed (refuses-codes h first second r n call) = refused h (namingOf first second) (λ e. n (call .result ∙ e))
-  step-allowed (rebuilds lost left enc loses call) =
-      loss lost left (slice-bytes left (loses .bytes)) (ap (λ (n : ℕ). rebuildRefusal g n lost) (sym (loses .long)) ∙ sym (call .result)) enc
+  step-allowed (rebuilds lost left enc loses call) = loss-allowed lost left enc loses call
+  step-allowed (rebuilds-codes first second lost left enc named loses call) = loss-allowed lost left enc loses (by-codes g named call)
 
   -- ---- a chain of them, from any stripe that is as long as the first
   chain-runs : {s t : List ℕ} {ms : List Member} (len : ℕ) → encodeRefusal g len ≡ 0 → length s ≡ len → Steps g encoded s ms t
@@ -123,12 +139,12 @@ module _ (g : Geometry) (s : List ℕ) {r : ℕ} {t : List ℕ} (accepted : r �
 
     -- by codes: they name a loss
     pub demand2-by-codes : (first second : ℕ) → RebuildNamedCall g first second s r t → (lost : Lost) × (namingOf first second ≡ Loss lost) × Rebuilt g lost s t
-    demand2-by-codes first second call = go (namingOf first second) refl (sym (call .result) ∙ accepted) (call .stripe)
+    demand2-by-codes first second call = go (namingOf first second) refl (sym (call .result) ∙ accepted)
       where
-        go : (naming : Naming) → namingOf first second ≡ naming → namedRefusal g (length s) naming ≡ 0 → t ≡ rebuiltBy g naming s
+        go : (naming : Naming) → namingOf first second ≡ naming → namedRefusal g (length s) naming ≡ 0
             → (lost : Lost) × (namingOf first second ≡ Loss lost) × Rebuilt g lost s t
-        go (Loss lost) e none same = (lost, e, demand2-called lost record { result = accepted ∙ sym none; stripe = same })
-        go Wrong e none same =
+        go (Loss lost) e none = (lost, e, demand2-called lost (by-codes g e call))
+        go Wrong e none =
             let four : _≡_ {A = ℕ} 4 0 =
             first-none (shapeRefusals library g (length s)) (record { number = 4; applies = true } ∷ record { number = 5; applies = false } ∷ []) refl none .1
             in

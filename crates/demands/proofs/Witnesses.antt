@@ -12,7 +12,7 @@ use borrow.Author.Tests.{le-leb, ne-eqb}
 use lib.ListN.{length}
 use Rattle.base.proofs.Refused.{first-passed}
 use Rattle.column.specs.declared.Device.{Device}
-use Rattle.column.specs.declared.Device.the-variants.{Data}
+use Rattle.column.specs.declared.Device.the-variants.{Data, P, Q}
 use Rattle.column.specs.declared.Lost.{Lost}
 use Rattle.column.specs.declared.Lost.the-variants.{One, Two}
 use Rattle.column.specs.Column.{roleOf}
@@ -23,15 +23,15 @@ use Rattle.shape.specs.declared.Naming.{Naming}
 use Rattle.shape.specs.declared.Naming.the-variants.{Loss}
 use Rattle.shape.specs.Layout.{size, column}
 use Rattle.shape.specs.Refusals.{library, shapeRefusals, stretchRefusals, lossRefusals, encodeRefusal, writeRefusal, rebuildRefusal, WellShaped}
-use Rattle.shape.specs.Codes.{namedBy, namingOf}
+use Rattle.shape.specs.Codes.{namedBy, namingOf, namedRefusal}
 use Rattle.shape.proofs.Places.{lift-at}
 use Rattle.shape.proofs.Refused.{well-shaped}
 use Rattle.shape.proofs.Accepts.{write-accepts, rebuild-accepts}
 use Rattle.write.specs.Write.{afterWrite}
-use Rattle.stripe.specs.Calls.{afterRebuild}
-use Rattle.demands.specs.Series.{Bytes, Member, GivesNothing, Without, end, keep, drop}
+use Rattle.stripe.specs.Calls.{afterRebuild, rebuiltBy}
+use Rattle.demands.specs.Series.{Member, GivesNothing, Without, end, keep, drop}
 use Rattle.demands.specs.Members.{writeMember, refusedRebuild, lose, lossMember}
-use Rattle.demands.specs.Called.{Slice, Step, writes, refuses, refuses-codes, rebuilds}
+use Rattle.demands.specs.Called.{Slice, Loses, Step, writes, refuses, refuses-codes, rebuilds, rebuilds-codes}
 use Rattle.demands.proofs.Bytes.{columns-symbols}
 use Rattle.demands.proofs.Accepted.{Lifted, lifted}
 use Rattle.demands.proofs.Called.{slice-bytes, bytes-slice}
@@ -95,19 +95,45 @@ module _ (g : Geometry) (encoded : Type 0) (s : List ℕ) (fits : encodeRefusal 
         stripe = refl;
       }
 
-  pub loss-and-rebuild : encoded → Slice s → (lost : Lost) → KnownLoss (g .n) lost → (junk : List ℕ) → Slice junk
-      → Step g encoded s (lossMember g lost (lose g lost junk s)) (afterRebuild g lost (lose g lost junk s))
-  loss-and-rebuild enc slice lost known junk bytes =
-      rebuilds lost (lose g lost junk s) enc
-      record { bytes = bytes-slice (lose g lost junk s) left; long = laid .long; spared = λ i r hi hr. lose-spares g junk s (shaped .whole) i hi lost r hr }
-      record { result = sym (ap (λ (n : ℕ). rebuildRefusal g n lost) (laid .long) ∙ rebuild-accepts g (length s) fits lost known); stripe = refl }
-    where
-      laid : Lifted g (λ i c. overwrite (g .n) lost (column g junk i) c) s (lose g lost junk s)
-      laid = lifted g (λ i c. overwrite (g .n) lost (column g junk i) c) s (shaped .whole) refl
+  -- any loss, with its rebuild by devices or by codes
+  module _ (enc : encoded) (slice : Slice s) (lost : Lost) (known : KnownLoss (g .n) lost) (junk : List ℕ) (bytes : Slice junk) where
+    laid : Lifted g (λ i c. overwrite (g .n) lost (column g junk i) c) s (lose g lost junk s)
+    laid = lifted g (λ i c. overwrite (g .n) lost (column g junk i) c) s (shaped .whole) refl
 
-      left : Bytes (lose g lost junk s)
-      left =
-          laid .bytes (λ i. overwrite-symbols 8 (g .n) lost (column g junk i) (column g s i) (columns-symbols g junk (slice-bytes junk bytes) i) (columns-symbols g s (slice-bytes s slice) i))
+    loses : Loses g lost s (lose g lost junk s)
+    loses =
+        record {
+          bytes =
+              bytes-slice (lose g lost junk s)
+              (laid .bytes
+              (λ i. overwrite-symbols 8 (g .n) lost (column g junk i) (column g s i) (columns-symbols g junk (slice-bytes junk bytes) i) (columns-symbols g s (slice-bytes s slice) i)));
+          long = laid .long;
+          spared = λ i r hi hr. lose-spares g junk s (shaped .whole) i hi lost r hr;
+        }
+
+    accepted : rebuildRefusal g (length (lose g lost junk s)) lost ≡ 0
+    accepted = ap (λ (n : ℕ). rebuildRefusal g n lost) (laid .long) ∙ rebuild-accepts g (length s) fits lost known
+
+    pub loss-and-rebuild : Step g encoded s (lossMember g lost (lose g lost junk s)) (afterRebuild g lost (lose g lost junk s))
+    loss-and-rebuild = rebuilds lost (lose g lost junk s) enc loses record { result = sym accepted; stripe = refl }
+
+    pub loss-and-rebuild-by-codes : (first second : ℕ) → namingOf first second ≡ Loss lost
+        → Step g encoded s (lossMember g lost (lose g lost junk s)) (afterRebuild g lost (lose g lost junk s))
+    loss-and-rebuild-by-codes first second named =
+        rebuilds-codes first second lost (lose g lost junk s) enc named loses
+        record {
+          result = sym (ap (namedRefusal g (length (lose g lost junk s))) named ∙ accepted);
+          stripe = sym (ap (λ (n : Naming). rebuiltBy g n (lose g lost junk s)) named);
+        }
+
+-- codes that name a loss of one device, and of two
+pub code-of-a-disk : namingOf 0 65535 ≡ Loss (One (Data 0))
+unfolding namedBy
+code-of-a-disk = refl
+
+pub codes-of-parities : namingOf 256 257 ≡ Loss (Two P Q)
+unfolding namedBy
+codes-of-parities = refl
 
 -- ---- members that give nothing
 pub loss-gives-nothing : (g : Geometry) (lost : Lost) (junk : List ℕ) → GivesNothing (lossMember g lost junk)

@@ -40,6 +40,9 @@ pub data Step (g : Geometry) (encoded : Type 0) : List ℕ → Member → List �
       → Step g encoded s (refusedRebuild h (namingOf first second)) t
   rebuilds : {s t : List ℕ} (lost : Lost) (left : List ℕ) → encoded → Loses g lost s left → RebuildCall g lost left 0 t
       → Step g encoded s (lossMember g lost left) t
+  rebuilds-codes : {s t : List ℕ} (first second : ℕ) (lost : Lost) (left : List ℕ) → encoded → namingOf first second ≡ Loss lost → Loses g lost s left
+      → RebuildNamedCall g first second left 0 t
+      → Step g encoded s (lossMember g lost left) t
 
 pub data Steps (g : Geometry) (encoded : Type 0) : List ℕ → List Member → List ℕ → Type 0 where
   done : {s : List ℕ} → Steps g encoded s [] s
