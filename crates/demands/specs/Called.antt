@@ -32,12 +32,15 @@ pub record Loses (g : Geometry) (lost : Lost) (s t : List ℕ) : Type 0 where
 -- A call that is a member of a series, or a loss with its rebuild: the stripe before, the member, and the stripe after. A result of 0 is an
 -- accepted call.
 pub data Step (g : Geometry) (encoded : Type 0) : List ℕ → Member → List ℕ → Type 0 where
+  -- any write; an accepted one has the stripe's n and B
   writes : {s t : List ℕ} (h : Geometry) (disk offset : ℕ) (new : List ℕ) (r : ℕ) → Slice new → (r ≡ 0 → h ≡ g) → WriteCall h disk offset new s r t
       → Step g encoded s (writeMember (length s) h disk offset new) t
+  -- a refused rebuild of any stripe, by devices and by codes
   refuses : {s t : List ℕ} (h : Geometry) (lost : Lost) (r : ℕ) → r ≢ 0 → RebuildCall h lost s r t
       → Step g encoded s (refusedRebuild h (Loss lost)) t
   refuses-codes : {s t : List ℕ} (h : Geometry) (first second r : ℕ) → r ≢ 0 → RebuildNamedCall h first second s r t
       → Step g encoded s (refusedRebuild h (namingOf first second)) t
+  -- a loss, where the start is encoded, and the accepted rebuild of just its devices
   rebuilds : {s t : List ℕ} (lost : Lost) (left : List ℕ) → encoded → Loses g lost s left → RebuildCall g lost left 0 t
       → Step g encoded s (lossMember g lost left) t
   rebuilds-codes : {s t : List ℕ} (first second : ℕ) (lost : Lost) (left : List ℕ) → encoded → namingOf first second ≡ Loss lost → Loses g lost s left
