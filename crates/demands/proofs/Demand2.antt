@@ -23,8 +23,11 @@ use Rattle.shape.specs.Layout.{column}
 use Rattle.write.specs.Write.{covers, afterWrite}
 use Rattle.shape.specs.Refusals.{encodeRefusal, writeRefusal, rebuildRefusal, WellShaped}
 use Rattle.shape.specs.Codes.{namingOf, namedRefusal}
+use Rattle.stripe.specs.Stripe.{rebuilt}
 use Rattle.stripe.specs.Calls.{afterEncode, afterRebuild, rebuiltBy}
+use Rattle.base.proofs.Refused.{left-done}
 use Rattle.shape.proofs.Places.{by-columns}
+use Rattle.shape.proofs.Exchanged.{rebuild-exchanged}
 use Rattle.shape.proofs.Order.{refusal-in-any-order, codes-exchanged, code-refusal-in-any-order}
 use Rattle.shape.proofs.Refused.{well-shaped, write-accepted, rebuild-accepted}
 use Rattle.column.proofs.Loss.{known-role}
@@ -36,7 +39,7 @@ use Rattle.demands.specs.Series.{Bytes, EncodedStripe}
 use Rattle.demands.specs.Demand2.{Rebuilt, SameColumn}
 use Rattle.column.proofs.ReedSolomon.{reed-solomon}
 use Rattle.column.proofs.Columns.{encode-data, encode-encoded, encode-fixed, encoded-same, write-same}
-use Rattle.column.proofs.Rebuild.{rebuild-spares, rebuild-meets, rebuild-only, rebuild-blind, rebuild-order, meets-same}
+use Rattle.column.proofs.Rebuild.{rebuild-spares, rebuild-meets, rebuild-only, rebuild-blind, meets-same}
 use Rattle.demands.proofs.Bytes.{columns-symbols}
 use Rattle.demands.proofs.Accepted.{encode-lifts, write-lifts, rebuild-lifts, rebuild-refused}
 
@@ -152,6 +155,7 @@ module _ (g : Geometry) (s t : List ℕ) (hs : Bytes s) (ht : Bytes t) (len : le
 
 -- ---- the order of the two names doesn't matter, be the call accepted or refused
 pub names-in-any-order : (g : Geometry) (d e : Device) (s : List ℕ) → Bytes s → afterRebuild g (Two e d) s ≡ afterRebuild g (Two d e) s
+unfolding afterRebuild
 names-in-any-order g d e s bytes = go (ℕ-discrete (rebuildRefusal g (length s) (Two d e)) 0)
   where
     order : rebuildRefusal g (length s) (Two e d) ≡ rebuildRefusal g (length s) (Two d e)
@@ -159,17 +163,9 @@ names-in-any-order g d e s bytes = go (ℕ-discrete (rebuildRefusal g (length s)
 
     go : Dec (rebuildRefusal g (length s) (Two d e) ≡ 0) → afterRebuild g (Two e d) s ≡ afterRebuild g (Two d e) s
     go (yes accepted) =
-        by-columns g (fit .some) (afterRebuild g (Two e d) s) (afterRebuild g (Two d e) s) (rebuild-length g (Two e d) s also ∙ fit .whole) (rebuild-length g (Two d e) s accepted ∙ fit .whole)
-        (λ i r hi hr.
-        after-rebuild g (Two e d) s also i r hi hr
-        ∙ rebuild-order reedSolomon 8 255 reed-solomon (g .n) (fit .disks) d e (column g s i) (columns-symbols g s bytes i) (sound g (Two d e) s accepted) r hr
-        ∙ sym (after-rebuild g (Two d e) s accepted i r hi hr))
-      where
-        also : rebuildRefusal g (length s) (Two e d) ≡ 0
-        also = order ∙ accepted
-
-        fit : WellShaped g s
-        fit = fitting g (Two d e) s accepted
+        left-done (rebuildRefusal g (length s) (Two e d)) (rebuilt g (Two e d) s) s (order ∙ accepted)
+        ∙ rebuild-exchanged g d e s bytes accepted
+        ∙ sym (left-done (rebuildRefusal g (length s) (Two d e)) (rebuilt g (Two d e) s) s accepted)
     go (no refused) = rebuild-refused g (Two e d) s (λ z. refused (sym order ∙ z)) ∙ sym (rebuild-refused g (Two d e) s refused)
 
 -- the same where codes name them, unless one names none

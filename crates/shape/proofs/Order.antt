@@ -30,7 +30,7 @@ eqb-comm a b = go (ℕ-discrete a b)
     go (yes e) = eq-eqb a b e ∙ sym (eq-eqb b a (sym e))
     go (no n) = ne-eqb a b n ∙ sym (ne-eqb b a (λ e. n (sym e)))
 
-same-comm : (d e : Column.Device) → sameDevice d e ≡ sameDevice e d
+pub same-comm : (d e : Column.Device) → sameDevice d e ≡ sameDevice e d
 same-comm (Data k) (Data j) = eqb-comm k j
 same-comm (Data k) P = refl
 same-comm (Data k) Q = refl
