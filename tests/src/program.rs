@@ -10,10 +10,18 @@ use std::time::{Duration, Instant};
 /// A program that runs longer is taken to loop.
 const LIMIT: Duration = Duration::from_secs(120);
 
-fn start(name: &str, stdin: Stdio, stdout: Stdio) -> Child {
+fn path(name: &str) -> PathBuf {
     let path = PathBuf::from(concat!(env!("CARGO_MANIFEST_DIR"), "/../target/bin")).join(name);
     assert!(path.exists(), "target/bin/{name} is missing: `rt check {name}` builds it");
-    Command::new(path).stdin(stdin).stdout(stdout).spawn().unwrap_or_else(|e| panic!("target/bin/{name} does not start: {e}"))
+    path
+}
+
+fn spawn(name: &str, command: &mut Command) -> Child {
+    command.spawn().unwrap_or_else(|e| panic!("target/bin/{name} does not start: {e}"))
+}
+
+fn start(name: &str, stdin: Stdio, stdout: Stdio) -> Child {
+    spawn(name, Command::new(path(name)).stdin(stdin).stdout(stdout))
 }
 
 /// What the program writes before it ends by itself with status 0.
@@ -69,15 +77,41 @@ pub fn run_on_file(name: &str, file: File) -> Vec<u8> {
     output(name, child)
 }
 
-/// Runs the program with its output going to a file, and says how it ended.
-pub fn run_into_file(name: &str, input: File, file: File) -> ExitStatus {
-    ended(name, &mut start(name, input.into(), file.into()))
+/// How a program ended, and what it wrote to standard error, which fits in a pipe.
+pub struct Ending {
+    pub status: ExitStatus,
+    pub errors: String,
 }
 
-/// Runs the program with its output going to a pipe that has no reader, and says how it ended.
-pub fn run_unread(name: &str, input: &[u8]) -> ExitStatus {
-    let mut child = start(name, Stdio::piped(), Stdio::piped());
+fn ending(name: &str, mut child: Child) -> Ending {
+    let status = ended(name, &mut child);
+    let errors = child.wait_with_output().expect("a child can be waited for").stderr;
+    Ending { status, errors: String::from_utf8(errors).expect("text") }
+}
+
+/// Runs the program with its output going to a file.
+pub fn run_into_file(name: &str, input: File, file: File) -> Ending {
+    ending(name, spawn(name, Command::new(path(name)).stdin(input).stdout(file).stderr(Stdio::piped())))
+}
+
+/// What becomes of the signal of a closed pipe: its default, or nothing, as some parents leave it to the programs they start.
+#[derive(Clone, Copy)]
+pub enum ClosedPipe {
+    Signals,
+    IsIgnored,
+}
+
+/// Runs the program with its output going to a pipe that has no reader.
+pub fn run_unread(name: &str, input: &[u8], closed: ClosedPipe) -> Ending {
+    let mut command = match closed {
+        ClosedPipe::Signals => Command::new(path(name)),
+        ClosedPipe::IsIgnored => Command::new("sh"),
+    };
+    if let ClosedPipe::IsIgnored = closed {
+        command.args(["-c", "trap '' PIPE; exec \"$0\""]).arg(path(name));
+    }
+    let mut child = spawn(name, command.stdin(Stdio::piped()).stdout(Stdio::piped()).stderr(Stdio::piped()));
     drop(child.stdout.take());
     child.stdin.take().expect("standard input is piped").write_all(input).expect("a pipe takes the input");
-    ended(name, &mut child)
+    ending(name, child)
 }

@@ -7,7 +7,7 @@ use std::path::Path;
 use std::time::Duration;
 
 use outside::job::{self, Header, CHECK, ENCODE, REBUILD};
-use outside::program;
+use outside::program::{self, ClosedPipe};
 use outside::random::{trials, Random};
 use outside::shapes::{BLOCKS, DISKS};
 
@@ -110,19 +110,41 @@ fn a_read_that_fails() {
     assert_eq!(program::run_on_file(PROGRAM, folder), job::answer(&[]));
 }
 
-/// The program ends even if nothing takes its answer.
+const NOT_WHOLE: &str = "shelf_job: the answer could not be written whole\n";
+
+/// The program ends even if nothing takes its answer, and says so.
 #[test]
 fn a_write_that_fails() {
     let full = File::options().write(true).open("/dev/full").expect("a device that is always full");
     let nothing = File::open("/dev/null").expect("an empty input");
-    assert!(program::run_into_file(PROGRAM, nothing, full).success());
+    let end = program::run_into_file(PROGRAM, nothing, full);
+    assert!(end.status.success(), "{}", end.status);
+    assert_eq!(end.errors, NOT_WHOLE);
+}
+
+/// Where an answer is written whole, nothing else is.
+#[test]
+fn a_write_that_succeeds() {
+    let null = File::options().write(true).open("/dev/null").expect("a device that takes everything");
+    let nothing = File::open("/dev/null").expect("an empty input");
+    let end = program::run_into_file(PROGRAM, nothing, null);
+    assert!(end.status.success(), "{}", end.status);
+    assert_eq!(end.errors, "");
 }
 
 /// The signal of a closed pipe may end the program.
 #[test]
 fn a_reader_that_goes_away() {
-    let status = program::run_unread(PROGRAM, &largest());
+    let status = program::run_unread(PROGRAM, &largest(), ClosedPipe::Signals).status;
     assert!(status.success() || status.signal() == Some(SIGPIPE), "{status}");
+}
+
+/// Where the signal is ignored, the program ends by itself and says what happened.
+#[test]
+fn a_reader_that_goes_away_without_a_signal() {
+    let end = program::run_unread(PROGRAM, &largest(), ClosedPipe::IsIgnored);
+    assert!(end.status.success(), "{}", end.status);
+    assert_eq!(end.errors, NOT_WHOLE);
 }
 
 /// A header of which the most likely damage is none.

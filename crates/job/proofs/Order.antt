@@ -21,12 +21,16 @@ use Rattle.job.specs.Steps.{headerRefusals, callRefusals}
 abbrev pub limitsOf : List ℕ → List Refusal
 limitsOf job = limitsRefusals library (geometryOf job)
 
-abbrev pub restOf : List ℕ → List Refusal
-restOf job =
-    refusal3 (geometryOf job) (length (stripeOf job))
+-- from 3 on, with the stripe's length beside the job
+abbrev pub from3 : List ℕ → ℕ → List Refusal
+from3 job len =
+    refusal3 (geometryOf job) len
     ∷ refusal4 (geometryOf job) (commandOf job) (firstDevice job) (secondDevice job)
     ∷ refusal5 (firstDevice job) (secondDevice job)
     ∷ []
+
+abbrev pub restOf : List ℕ → List Refusal
+restOf job = from3 job (length (stripeOf job))
 
 -- from 20 on, and all that follows the header
 abbrev pub from20 : List ℕ → List Refusal

@@ -1,0 +1,82 @@
+-- The refusal of a job depends on the 14 bytes of its header and on its length alone, and of a length above the limit on its header alone.
+-- Assumes nothing.
+use mathlib.Core.Path.{_≡_, refl, sym, ap, ap₂, _∙_}
+use mathlib.Core.Logic.{_≢_}
+use mathlib.Core.Bool.{Bool, true, false}
+use mathlib.Core.List.{List, [], _∷_, _++_}
+use Prim.Native.Nat.{ℕ, _+_, _-_, _≤_, _<_}
+use native.Mathlib.Omega.{arith}
+use borrow.Author.Tests.{ltb-false, ne-eqb, le-ltb}
+use lib.Dec.{eqb, ltb}
+use lib.ListN.{length, getD, take, length-drop}
+use lib.Seq.{getD-take}
+use Rattle.base.specs.Choice.{choose}
+use Rattle.base.specs.Refusal.{Refusal, firstOf}
+use Rattle.shape.specs.Layout.{size}
+use Rattle.shape.specs.Refusals.{refusal3}
+use Rattle.shape.proofs.Refused.{well-shaped}
+use Rattle.job.specs.Fields.{field}
+use Rattle.job.specs.Header.{commandOf, geometryOf, firstDevice, secondDevice, stripeOf}
+use Rattle.job.specs.Refusals.{refusal4, refusal5, refusal20, jobRefusal}
+use Rattle.job.specs.Steps.{headerRefusals}
+use Rattle.job.proofs.Order.{limitsOf, from3}
+use Rattle.job.proofs.Accepted.{accepted}
+
+-- two orders that begin alike
+first-tail : (xs ys zs : List Refusal) → firstOf ys ≡ firstOf zs → firstOf (xs ++ ys) ≡ firstOf (xs ++ zs)
+first-tail [] ys zs e = e
+first-tail (r ∷ xs) ys zs e = ap (λ (k : ℕ). choose (r .applies) (r .number) k) (first-tail xs ys zs e)
+
+-- jobs that agree in their first n bytes
+module _ (job other : List ℕ) (n : ℕ) (same : take n job ≡ take n other) where
+  pub same-byte : (k : ℕ) → k < n → getD job k 0 ≡ getD other k 0
+  same-byte k h = sym (getD-take n job k 0 h) ∙ ap (λ (l : List ℕ). getD l k 0) same ∙ getD-take n other k 0 h
+
+  pub same-field : (k : ℕ) → k + 1 < n → field job k ≡ field other k
+  unfolding field
+  same-field k h = rw (same-byte k (omega arith), same-byte (k + 1) h)
+
+module _ (job other : List ℕ) (header : take 14 job ≡ take 14 other) where
+  byte : (k : ℕ) → k < 14 → getD job k 0 ≡ getD other k 0
+  byte = same-byte job other 14 header
+
+  number : (k : ℕ) → k + 1 < 14 → field job k ≡ field other k
+  number = same-field job other 14 header
+
+  -- by what the tests for 16 and 3 make of the lengths; 3 comes after 20
+  by-lengths : ltb (length job) 14 ≡ ltb (length other) 14
+      → (size (geometryOf other) ≤ 61440
+      → eqb (length (stripeOf job)) (size (geometryOf other)) ≡ eqb (length (stripeOf other)) (size (geometryOf other)))
+      → jobRefusal job ≡ jobRefusal other
+  unfolding jobRefusal
+  by-lengths short three =
+      rw (byte 0 (omega arith), byte 1 (omega arith), byte 2 (omega arith), number 3 (omega arith), byte 5 (omega arith), number 6 (omega arith), number 8 (omega arith), number 10 (omega arith), number 12 (omega arith), short)
+      (first-tail (headerRefusals other ++ limitsOf other) (refusal20 (geometryOf other) ∷ from3 other (length (stripeOf job))) (refusal20 (geometryOf other) ∷ from3 other (length (stripeOf other)))
+      (go (ltb 61440 (size (geometryOf other))) refl))
+    where
+      go : (large : Bool) → ltb 61440 (size (geometryOf other)) ≡ large
+          → choose large 20 (firstOf (from3 other (length (stripeOf job))))
+          ≡ choose large 20 (firstOf (from3 other (length (stripeOf other))))
+      go true e = refl
+      go false e = rw (three (ltb-false 61440 (size (geometryOf other)) e))
+
+  -- refusals depend on numbers and lengths alone, never on the bytes of the stripe
+  pub refusal-by-header : length job ≡ length other → jobRefusal job ≡ jobRefusal other
+  refusal-by-header e =
+      by-lengths (ap (λ (n : ℕ). ltb n 14) e)
+      (λ h. ap (λ (n : ℕ). eqb n (size (geometryOf other))) (length-drop 14 job ∙ ap (λ (n : ℕ). n - 14) e ∙ sym (length-drop 14 other)))
+
+  -- no stripe is so long
+  pub refusal-past-limit : 61454 < length job → 61454 < length other → jobRefusal job ≡ jobRefusal other
+  refusal-past-limit h k =
+      by-lengths (le-ltb (length job) 14 (omega arith) ∙ sym (le-ltb (length other) 14 (omega arith)))
+      (λ fits. other-length job h fits ∙ sym (other-length other k fits))
+    where
+      other-length : (l : List ℕ) → 61454 < length l → size (geometryOf other) ≤ 61440 → eqb (length (stripeOf l)) (size (geometryOf other)) ≡ false
+      other-length l p fits = ne-eqb (length (stripeOf l)) (size (geometryOf other)) (λ e. omega (arith, length-drop 14 l))
+
+pub too-long : (job : List ℕ) → 61454 < length job → jobRefusal job ≢ 0
+too-long job h e =
+    let ok = accepted job e in
+    let whole = well-shaped (geometryOf job) (stripeOf job) (ok .shape) in
+    omega (arith, length-drop 14 job)
