@@ -7,6 +7,7 @@ use Prim.Native.Nat.{ℕ, _+_, _*_}
 use native.Mathlib.Omega.{arith}
 use native.Mathlib.Decide.{ℕ-discrete}
 use lib.ListN.{length}
+use Rattle.column.specs.declared.Lost.{Lost}
 use Rattle.shape.specs.declared.Geometry.{Geometry}
 use Rattle.shape.specs.declared.Naming.{Naming}
 use Rattle.shape.specs.declared.Naming.the-variants.{Loss, Wrong}
@@ -14,7 +15,7 @@ use Rattle.column.specs.Column.{reedSolomon, encodeColumn, rebuildColumn, verdi
 use Rattle.shape.specs.Layout.{column}
 use Rattle.stripe.specs.Stripe.{encoded, rebuilt, verdicts}
 use Rattle.verdict.specs.Summary.{summary}
-use Rattle.shape.specs.Refusals.{library, shapeRefusals, lossRefusals, encodeRefusal, rebuildRefusal}
+use Rattle.shape.specs.Refusals.{library, unknownLost, twice, shapeRefusals, lossRefusals, encodeRefusal, rebuildRefusal}
 use Rattle.stripe.specs.Calls.{afterEncode, afterRebuild, rebuiltBy}
 use Rattle.shape.proofs.Places.{length-lift}
 use Rattle.base.proofs.Table.{length-tabulate}
@@ -72,12 +73,14 @@ module _ (job : List ℕ) where
     unfolding afterEncode
     encode-done e = left-done (encodeRefusal g (length s)) (encoded g s) s (ok .shape) ∙ sym (body-encode e)
 
+    pub loss-accepted : (lost : Lost) → unknownLost g lost ≡ false → twice lost ≡ false → rebuildRefusal g (length s) lost ≡ 0
+    loss-accepted lost m t = first-passed (shapeRefusals library g (length s)) (lossRefusals g lost) refl (ok .shape) ∙ simp (m, t)
+
     pub rebuild-done : commandOf job ≡ 2 → rebuiltBy g (lossNamed job) s ≡ body job
     unfolding afterRebuild
     rebuild-done e = go (lossNamed job) (rw e at (ok .named)) (ok .apart) ∙ sym (body-rebuild e)
       where
         go : (loss : Naming) → misnamed g loss ≡ false → namedTwice loss ≡ false → rebuiltBy g loss s ≡ restored g loss s
         go (Loss lost) m t =
-            left-done (rebuildRefusal g (length s) lost) (rebuilt g lost s) s
-            (first-passed (shapeRefusals library g (length s)) (lossRefusals g lost) refl (ok .shape) ∙ simp (m, t))
+            left-done (rebuildRefusal g (length s) lost) (rebuilt g lost s) s (loss-accepted lost m t)
         go Wrong m t = refl

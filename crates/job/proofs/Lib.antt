@@ -4,4 +4,5 @@ pub mod Accepted
 pub mod Headed
 pub mod Bodies
 pub mod Answers
+pub mod Exchanged
 pub mod Tails

@@ -1,8 +1,9 @@
 -- A job is a header of 14 bytes and a stripe. The header: mark, version, command byte, n, B, and the codes of a first and a second
 -- device. All but the mark and the command are 16-bit fields.
 use Prim.Native.Nat.{ℕ}
+use mathlib.Core.Path.{_≡_}
 use mathlib.Core.List.{List, [], _∷_}
-use lib.ListN.{getD, drop}
+use lib.ListN.{length, getD, take, drop}
 use Rattle.shape.specs.declared.Geometry.{Geometry}
 use Rattle.shape.specs.Layout.{geometry}
 use Rattle.shape.specs.declared.Named.{Named}
@@ -36,3 +37,11 @@ lossNamed job = lossOf (firstDevice job) (secondDevice job)
 
 abbrev pub stripeOf : List ℕ → List ℕ
 stripeOf job = drop 14 job
+
+-- two jobs that differ in the order of their device codes alone
+pub record Exchanged (job other : List ℕ) : Type 0 where
+  pub lengths : length job ≡ length other
+  pub front : take 10 job ≡ take 10 other
+  pub first : field job 10 ≡ field other 12
+  pub second : field job 12 ≡ field other 10
+  pub stripes : stripeOf job ≡ stripeOf other
