@@ -31,8 +31,8 @@ bench: lib
 	bench/linux
 	cd bench && cargo run --quiet --release --offline --locked
 
-# Where installed files go. DESTDIR, if given, stands before PREFIX for a staged copy, and no file mentions it.
-VERSION = 0.1.0
+# The header says the version. DESTDIR, if given, stands before PREFIX for a staged copy, and no file mentions it.
+VERSION := $(shell sed -n 's/^.define SHELF_VERSION "\(.*\)"$$/\1/p' include/shelf.h)
 PREFIX = /usr/local
 bindir = $(DESTDIR)$(PREFIX)/bin
 libdir = $(DESTDIR)$(PREFIX)/lib

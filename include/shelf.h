@@ -7,16 +7,22 @@
  * Parities. In each column P = D0 + D1 + ... and Q = the sum of 02^k * Dk, in the field of bytes modulo
  * x^8 + x^4 + x^3 + x^2 + 1, where a sum is exclusive or. A stripe that meets both equations is encoded.
  *
- * Numbers. All are 64 bits wide, lengths too (only 64-bit targets are supported), and are taken whole: none is cut to
- * fit, and any value may be passed.
+ * Numbers. All are 64 bits wide, lengths too, and are taken whole: none is cut to fit, and any value may be passed.
  *
  * Results. 0 is done. Any other result is the number of a refusal, listed with each call in the order in which the
  * tests are made: the first that applies is returned. A refused call changes nothing. Whether a call is refused depends
- * on its numbers and lengths alone, never on the bytes of a buffer.
+ * on its numbers and lengths alone, never on the bytes of a buffer. A result must not be ignored: a stripe after a
+ * refused call is the one before it.
  *
- * Buffers. A length is in bytes and is that of the buffer behind the pointer. A pointer may be null only where its
- * length is 0. Buffers need no alignment. No call reads or writes outside of them or keeps a pointer. Calls allocate
- * nothing, use less than 8 KiB of stack, hold no state and may run at the same time on different stripes.
+ * Buffers. Each pointer comes with the length in bytes of the buffer behind it, and may be null only where that is 0.
+ * Buffers need no alignment. No call reads or writes outside of them or keeps a pointer. Calls allocate nothing, use
+ * less than 8 KiB of stack, hold no state and may run at the same time on different stripes.
+ *
+ * The caller's part. No call can test that a pointer and its length are true of memory that it may use, that the new
+ * bytes of a write lie outside of the stripe, or that nobody else uses the buffers meanwhile. Where one of these fails,
+ * nothing is promised.
+ *
+ * Linking. The library calls memcpy and memset of C and nothing else; each of its calls may reach them.
  */
 #ifndef SHELF_H
 #define SHELF_H
@@ -24,8 +30,31 @@
 #include <stddef.h>
 #include <stdint.h>
 
+#if SIZE_MAX != UINT64_MAX || UINTPTR_MAX != UINT64_MAX
+#error "shelf.h: only targets with 64-bit pointers and lengths are supported"
+#endif
+
 #ifdef __cplusplus
 extern "C" {
+#endif
+
+/* This header's version, and its parts. */
+#define SHELF_VERSION "0.1.0"
+#define SHELF_VERSION_MAJOR 0
+#define SHELF_VERSION_MINOR 1
+#define SHELF_VERSION_PATCH 0
+
+/* The largest n and the largest b. */
+#define SHELF_MAX_DISKS 255
+#define SHELF_MAX_BLOCK 4096
+
+/* Has the compiler warn where a result is ignored; empty where it can't. */
+#if (defined(__cplusplus) && __cplusplus >= 201703L) || (defined(__STDC_VERSION__) && __STDC_VERSION__ >= 202311L)
+#define SHELF_USE_RESULT [[nodiscard]]
+#elif defined(__GNUC__)
+#define SHELF_USE_RESULT __attribute__((warn_unused_result))
+#else
+#define SHELF_USE_RESULT
 #endif
 
 /* Results. */
@@ -55,6 +84,7 @@ extern "C" {
  *   2  b is 0 or above 4096
  *   3  stripe_len isn't (n + 2) * b
  */
+SHELF_USE_RESULT
 uint8_t shelf_encode(uint64_t n, uint64_t b, uint8_t *stripe, size_t stripe_len);
 
 /*
@@ -68,7 +98,8 @@ uint8_t shelf_encode(uint64_t n, uint64_t b, uint8_t *stripe, size_t stripe_len)
  *   stripe_len  (n + 2) * b
  *   disk        the data disk, 0 to n - 1
  *   offset      where the stretch starts in the disk's block, in bytes, 0 to b
- *   bytes       the new bytes, which are only read; they must not overlap the stripe
+ *   bytes       the new bytes, which are only read. They must not overlap the stripe: the compiled code counts on it, as
+ *               memcpy does, and where they do nothing is promised of the stripe
  *   count       how many, 0 to b - offset; with 0 the call is done and changes nothing
  *
  * Refusals, in order:
@@ -78,6 +109,7 @@ uint8_t shelf_encode(uint64_t n, uint64_t b, uint8_t *stripe, size_t stripe_len)
  *   4  disk is n or more
  *   6  offset is above b, or count is above b - offset
  */
+SHELF_USE_RESULT
 uint8_t shelf_write(uint64_t n, uint64_t b, uint8_t *stripe, size_t stripe_len, uint64_t disk, uint64_t offset,
                     const uint8_t *bytes, size_t count);
 
@@ -109,6 +141,7 @@ uint8_t shelf_write(uint64_t n, uint64_t b, uint8_t *stripe, size_t stripe_len, 
  *   4  first is no device of this stripe (SHELF_NONE is none), or second is neither one nor SHELF_NONE
  *   5  first and second are the same device
  */
+SHELF_USE_RESULT
 uint8_t shelf_rebuild(uint64_t n, uint64_t b, uint8_t *stripe, size_t stripe_len, uint64_t first, uint64_t second);
 
 #ifdef __cplusplus

@@ -1,4 +1,5 @@
-/* A controller's first program, built against an installed copy: encodes a stripe, loses both data disks, rebuilds. */
+/* A controller's first program, built against an installed copy: encodes a stripe, loses both data disks, rebuilds, and
+   prints the version of its header. */
 #include <shelf.h>
 #include <stdio.h>
 #include <string.h>
@@ -17,5 +18,12 @@ int main(void)
         puts("rebuild is wrong");
         return 1;
     }
+    char parts[32];
+    snprintf(parts, sizeof parts, "%d.%d.%d", SHELF_VERSION_MAJOR, SHELF_VERSION_MINOR, SHELF_VERSION_PATCH);
+    if (strcmp(parts, SHELF_VERSION) != 0) {
+        puts("the version's parts are others");
+        return 1;
+    }
+    puts(SHELF_VERSION);
     return 0;
 }

@@ -134,6 +134,16 @@ static void widest_stripe(void)
     CHECK(shelf_write(255, 1, widest, 257, 255, 0, bytes, 1) == SHELF_BAD_DEVICE);
 }
 
+/* The header's limits are the last numbers that are taken. */
+static void limits(void)
+{
+    static uint8_t room[3 * (SHELF_MAX_BLOCK + 1)];
+    CHECK(shelf_encode(SHELF_MAX_DISKS, 1, room, SHELF_MAX_DISKS + 2) == SHELF_DONE);
+    CHECK(shelf_encode(SHELF_MAX_DISKS + 1, 1, room, SHELF_MAX_DISKS + 3) == SHELF_BAD_DISKS);
+    CHECK(shelf_encode(1, SHELF_MAX_BLOCK, room, 3 * SHELF_MAX_BLOCK) == SHELF_DONE);
+    CHECK(shelf_encode(1, SHELF_MAX_BLOCK + 1, room, 3 * (SHELF_MAX_BLOCK + 1)) == SHELF_BAD_BLOCK);
+}
+
 static void no_buffer(void)
 {
     CHECK(shelf_encode(0, 0, NULL, 0) == SHELF_BAD_DISKS);
@@ -153,6 +163,7 @@ int main(void)
     RUN(stretches);
     RUN(devices);
     RUN(widest_stripe);
+    RUN(limits);
     RUN(no_buffer);
     free(stripe);
     free(bytes);
