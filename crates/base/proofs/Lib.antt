@@ -3,3 +3,4 @@ pub mod Table
 pub mod Splice
 pub mod Fill
 pub mod Refused
+pub mod Tails

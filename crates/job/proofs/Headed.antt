@@ -1,6 +1,6 @@
 -- The refusal of a job depends on the 14 bytes of its header and on its length alone, and of a length above the limit on its header alone.
 -- Assumes nothing.
-use mathlib.Core.Path.{_≡_, refl, sym, ap, ap₂, _∙_}
+use mathlib.Core.Path.{_≡_, refl, sym, ap, _∙_}
 use mathlib.Core.Logic.{_≢_}
 use mathlib.Core.Bool.{Bool, true, false}
 use mathlib.Core.List.{List, [], _∷_, _++_}
@@ -13,11 +13,10 @@ use lib.Seq.{getD-take}
 use Rattle.base.specs.Choice.{choose}
 use Rattle.base.specs.Refusal.{Refusal, firstOf}
 use Rattle.shape.specs.Layout.{size}
-use Rattle.shape.specs.Refusals.{refusal3}
 use Rattle.shape.proofs.Refused.{well-shaped}
 use Rattle.job.specs.Fields.{field}
-use Rattle.job.specs.Header.{commandOf, geometryOf, firstDevice, secondDevice, stripeOf}
-use Rattle.job.specs.Refusals.{refusal4, refusal5, refusal20, jobRefusal}
+use Rattle.job.specs.Header.{geometryOf, stripeOf}
+use Rattle.job.specs.Refusals.{refusal20, jobRefusal}
 use Rattle.job.specs.Steps.{headerRefusals}
 use Rattle.job.proofs.Order.{limitsOf, from3}
 use Rattle.job.proofs.Accepted.{accepted}

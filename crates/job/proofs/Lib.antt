@@ -5,4 +5,3 @@ pub mod Headed
 pub mod Bodies
 pub mod Answers
 pub mod Exchanged
-pub mod Tails

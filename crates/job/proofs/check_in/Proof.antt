@@ -15,7 +15,7 @@ use Rattle.verdict.specs.Summary.{summary}
 use Rattle.base.proofs.Refused.{first-passed, left-done}
 use Rattle.job.specs.Fields.{bigEndian, fields}
 use Rattle.job.proofs.Fielded.{set-two}
-use Rattle.job.proofs.Tails.{put-tail}
+use Rattle.base.proofs.Tails.{put-tail}
 use Rattle.job.proofs.check_in.Statement.{statement}
 use Rattle.job.proofs.check_in.Tie as tie
 

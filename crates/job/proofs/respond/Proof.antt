@@ -9,7 +9,7 @@ use lib.ListN.{length, take, drop, length-drop, drop-of-length-le}
 use Rattle.job.specs.Refusals.{jobRefusal}
 use Rattle.job.specs.Answer.{opening, body}
 use Rattle.job.proofs.Answers.{answer-refused, answer-accepted, length-accepted, answer-least}
-use Rattle.job.proofs.Tails.{tail, put-tail}
+use Rattle.base.proofs.Tails.{tail, put-tail}
 use Rattle.job.proofs.respond.Statement.{statement}
 use Rattle.job.proofs.respond.Tie as tie
 

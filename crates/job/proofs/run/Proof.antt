@@ -15,7 +15,7 @@ use Rattle.job.specs.Header.{geometryOf, stripeOf}
 use Rattle.job.specs.Answer.{report}
 use Rattle.job.proofs.Accepted.{Accepted, accepted}
 use Rattle.job.proofs.Bodies.{body-check, length-check, length-stripe, other, encode-done, rebuild-done}
-use Rattle.job.proofs.Tails.{tail, filled}
+use Rattle.base.proofs.Tails.{tail, filled}
 use Rattle.job.proofs.run.Statement.{statement}
 use Rattle.job.proofs.run.Tie as tie
 
