@@ -7,7 +7,7 @@ ghost use mathlib.Core.Path.{_≡_};
 ghost use Prim.Native.Nat.{_+_, _≤_, _<_};
 ghost use lib.ListN.{length};
 ghost use Rattle.io.specs.Counts.{Counts};
-ghost use Rattle.field_calc.specs.Answer.{answer};
+ghost use Rattle.field_calc.specs.Answer.{answer, numberAt, AnswerAllCall, HalfRead};
 
 // A whole number of records.
 const CAPACITY: usize = 61440;
@@ -26,7 +26,8 @@ fn respond(records: &mut [u8]) {
 // Puts the answers at the start of the records, each over bytes that are read already, and answers
 // how many there are.
 fn answer_all(records: &mut [u8]) -> usize
-    ensures { λ r. ⌜ Counts r (now (records .exit)) ⌝ }
+    ensures { λ r. ⌜ AnswerAllCall (now (records .entry)) r (now (records .exit)) ⌝ }
+    ensures within { λ r. ⌜ Counts r (now (records .exit)) ⌝ }
 {
     let mut at = 0;
     let mut count = 0;
@@ -56,13 +57,14 @@ fn answer_one(operation: u8, a: Element, b: u64) -> u8
 
 fn number(bytes: &[u8], at: usize) -> u64
     requires { ⌜ at + 8 ≤ length (now bytes) ⌝ }
+    ensures { λ r. ⌜ r ≡ numberAt 8 (now (bytes .entry)) at ⌝ }
 {
     half(bytes, at) * 0x1_0000_0000 + half(bytes, at + 4)
 }
 
 fn half(bytes: &[u8], at: usize) -> u64
     requires { ⌜ at + 4 ≤ length (now bytes) ⌝ }
-    ensures { λ r. ⌜ r < 0x1_0000_0000 ⌝ }
+    ensures { λ r. ⌜ HalfRead (now (bytes .entry)) at r ⌝ }
 {
     let high = wide(bytes[at]) * 256 + wide(bytes[at + 1]);
     let low = wide(bytes[at + 2]) * 256 + wide(bytes[at + 3]);
@@ -70,7 +72,7 @@ fn half(bytes: &[u8], at: usize) -> u64
 }
 
 fn wide(x: u8) -> u64
-    ensures { λ r. ⌜ r < 256 ⌝ }
+    ensures { λ r. ⌜ (r ≡ x) × (r < 256) ⌝ }
 {
     x as u64
 }

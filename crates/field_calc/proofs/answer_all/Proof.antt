@@ -1,22 +1,26 @@
--- `field_calc::answer_all` is safe, ends and counts its answers: an answer never stands past the record that it answers.
+-- `field_calc::answer_all` meets its contract. The loop's invariant: the first `count` records are answered. The measure is what is left.
 -- Assumes nothing.
-use Prim.Native.Nat.{_≤_, _-_}
-use mathlib.Core.Path.{_≡_}
+use Prim.Native.Nat.{_+_, _*_, _≤_, _-_}
+use mathlib.Core.Path.{_≡_, refl, ap, _∙_}
 use native.Mathlib.Omega.{arith}
 use borrow.Author.Needs.{needs}
-use lib.ListN.{length}
+use lib.ListN.{length, getD}
+use Rattle.base.proofs.Fill.{Filled, fill-none}
 use Rattle.io.proofs.Counting.{counts}
+use Rattle.field_calc.specs.Answer.{answer, placed}
+use Rattle.field_calc.proofs.Records.{answered-more, answered-all}
 use Rattle.field_calc.proofs.answer_all.Statement.{statement}
 use Rattle.field_calc.proofs.answer_all.Tie as tie
 
 abbrev Inv-loop : tie.InvT-loop
-Inv-loop records₀ at₀ count₀ records at count = (count ≤ at) × ((at ≤ length records₀) × (length records ≡ length records₀))
+Inv-loop records₀ at₀ count₀ records at count =
+    (at ≡ 10 * count) × (at ≤ length records₀) × Filled (placed records₀) (length records₀) records₀ records count
 
 abbrev μ-loop : tie.MeasureT-loop
 μ-loop records₀ at₀ count₀ records at count = length records₀ - at
 
 loop-holds : tie.Need-loop-holds Inv-loop μ-loop
-loop-holds c = search needs
+loop-holds c = (omega arith, omega arith, fill-none refl)
 
 sub-loop : tie.Need-sub-loop Inv-loop μ-loop
 sub-loop c = search needs
@@ -52,13 +56,25 @@ loop-less : tie.Need-loop-less Inv-loop μ-loop
 loop-less c = search needs
 
 loop-again : tie.Need-loop-again Inv-loop μ-loop
-loop-again c = search needs
+loop-again c =
+    let s = c .before .before .before .before .before .before .before .before .args .records .now in
+    let l = c .before .before .before .before .before .before .loop in (
+      omega arith,
+      omega arith,
+      answered-more s (l .records) (l .count) (l .inv .2) (l .inv .0) (omega arith)
+          (c .answer-one .ensures ∙ ap (answer (getD (l .records) (l .at) 0) (getD (l .records) (l .at + 1) 0)) (c .before .number .ensures)),
+    )
 
 same-length : tie.Need-same-length Inv-loop μ-loop
 same-length c = search needs
 
 returns : tie.Need-returns Inv-loop μ-loop
-returns c = counts _ _ (omega arith)
+returns c =
+    let s = c .before .before .before .args .records .now in
+    let l = c .before .loop in (
+      record { count = omega arith; bytes = answered-all s (l .records) (l .count) (l .inv .2) (omega arith) (omega arith) },
+      counts _ _ (omega arith),
+    )
 
 pub answer-all-spec : {M : Type 1} → statement M
 answer-all-spec =
