@@ -1,0 +1,73 @@
+-- The answers to records of 65 bytes: the count, then eight matrices of eight row bytes. An answer is seven bytes.
+use mathlib.Core.Path.{_≡_}
+use mathlib.Core.List.{List, [], _∷_, _++_}
+use Prim.Native.Nat.{ℕ, zero, suc, _+_, _*_, _/_, _%_}
+use lib.ListN.{length, getD, drop}
+use Rattle.base.specs.Choice.{choose}
+use Rattle.bitmatrix.specs.Matrix.{Matrix}
+use Rattle.bitmatrix.specs.Judge.{Code, judged}
+use Rattle.bitmatrix.specs.declared.Finding.{Finding}
+use Rattle.bitmatrix.specs.declared.Finding.the-variants.{Fit, Singular, Pair}
+use Rattle.bitmatrix.specs.declared.Judgement.{Judgement}
+use Rattle.bitmatrix.specs.declared.Judgement.the-variants.{Refused, Judged}
+
+-- ---- what a record holds
+
+-- the matrix whose eight rows stand at a place
+abbrev pub matrixAt : List ℕ → ℕ → Matrix
+matrixAt bytes at =
+    getD bytes at 0
+    ∷ getD bytes (at + 1) 0
+    ∷ getD bytes (at + 2) 0
+    ∷ getD bytes (at + 3) 0
+    ∷ getD bytes (at + 4) 0
+    ∷ getD bytes (at + 5) 0
+    ∷ getD bytes (at + 6) 0
+    ∷ getD bytes (at + 7) 0
+    ∷ []
+
+-- eight matrices, one after the other
+unfoldable pub codeAt : List ℕ → ℕ → Code
+codeAt bytes at =
+    matrixAt bytes at
+    ∷ matrixAt bytes (at + 8)
+    ∷ matrixAt bytes (at + 16)
+    ∷ matrixAt bytes (at + 24)
+    ∷ matrixAt bytes (at + 32)
+    ∷ matrixAt bytes (at + 40)
+    ∷ matrixAt bytes (at + 48)
+    ∷ matrixAt bytes (at + 56)
+    ∷ []
+
+-- ---- an answer
+
+-- the kind of a finding (0 fit, 1 a matrix, 2 a pair) and its places
+abbrev pub findingBytes : Finding → List ℕ
+findingBytes Fit = 0 ∷ 0 ∷ 0 ∷ []
+findingBytes (Singular i) = 1 ∷ i % 256 ∷ 0 ∷ []
+findingBytes (Pair i j) = 2 ∷ i % 256 ∷ j % 256 ∷ []
+
+-- the result number, the finding, the ones as a big-endian number of 16 bits, and 1 where they are minimal; a refusal has zeros after its
+-- number
+abbrev pub answerBytes : Judgement → List ℕ
+answerBytes (Refused n) = n ∷ 0 ∷ 0 ∷ 0 ∷ 0 ∷ 0 ∷ 0 ∷ []
+answerBytes (Judged g n d) = 0 ∷ (findingBytes g ++ (n / 256 % 256 ∷ n % 256 ∷ choose d 1 0 ∷ []))
+
+abbrev pub answerAt : List ℕ → ℕ → List ℕ
+answerAt bytes at = answerBytes (judged (codeAt bytes (at + 1)) (getD bytes at 0))
+
+-- ---- all records
+
+-- how many whole records there are
+abbrev pub records : List ℕ → ℕ
+records bytes = length bytes / 65
+
+-- the answers to the first k records
+unfoldable pub answers : ℕ → List ℕ → List ℕ
+answers zero bytes = []
+answers (suc k) bytes = answers k bytes ++ answerAt bytes (65 * k)
+
+-- what the function on records promises: how many bytes it answers, and that they stand at the output's start and the rest is left
+pub record JudgeAllCall (codes before : List ℕ) (r : ℕ) (after : List ℕ) : Type 0 where
+  pub count : r ≡ 7 * records codes
+  pub output : after ≡ answers (records codes) codes ++ drop (7 * records codes) before
