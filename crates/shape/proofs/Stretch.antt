@@ -13,7 +13,7 @@ use Rattle.base.proofs.Splice.{length-spliced, spliced-in, spliced-low, spliced
 use Rattle.column.specs.Column.{put}
 use Rattle.column.proofs.Put.{by-role, put-same, put-other}
 use Rattle.shape.specs.declared.Geometry.{Geometry}
-use Rattle.shape.specs.Layout.{start, lowStart, column}
+use Rattle.shape.specs.Layout.{start, lowStart, placeBefore, column}
 use Rattle.shape.specs.Refusals.{WellShaped}
 use Rattle.shape.specs.Columns.{ColumnsMapped, Stretch}
 use Rattle.shape.proofs.Columns.{columns-as}
@@ -22,6 +22,10 @@ use Rattle.shape.proofs.Places.{low-start, block-end, start-mono, start
 -- the block of a role that the stripe has begins where `start` says
 pub block-start : (g : Geometry) (s : List ℕ) (r : ℕ) {p : ℕ} → WellShaped g s → r < g .n + 2 → p ≡ lowStart g r → p ≡ start g r
 block-start g s r shaped hr e = e ∙ low-start g r (omega (arith, shaped .block)) (omega (arith, shaped .disks))
+
+-- and where column i of the role before stands
+pub before-start : (g : Geometry) (k i : ℕ) {at : ℕ} → g .b < 4294967296 → at < 18446744073709551616 → at ≡ start g (suc k) + i → placeBefore g at ≡ start g k + i
+before-start g k i block fits is = let ends = block-end g k in omega arith
 
 module _ (g : Geometry) (s : List ℕ) (role offset : ℕ) {count : ℕ} (shaped : WellShaped g s) (stretch : Stretch g role offset count) where
   pub stretch-inside : start g role + offset + count ≤ length s

@@ -1,5 +1,5 @@
 -- How a stripe lies in its buffer: the place of each role in each column, and how a function on columns is lifted to the buffer.
-use Prim.Native.Nat.{ℕ, _+_, _*_, _/_, _%_}
+use Prim.Native.Nat.{ℕ, _+_, _-_, _*_, _/_, _%_}
 use mathlib.Core.List.{List}
 use lib.ListN.{length, getD}
 use Rattle.base.specs.Table.{tabulate}
@@ -17,6 +17,10 @@ start g r = r * g .b
 -- the same of the low 32 bits of r and of B
 abbrev pub lowStart : Geometry → ℕ → ℕ
 lowStart g r = start (geometry (g .n) (g .b % 4294967296)) (r % 4294967296)
+
+-- the place in the block of the role before that is the same as `at` in the block of a role, modulo 2^64
+abbrev pub placeBefore : Geometry → ℕ → ℕ
+placeBefore g at = (at + (18446744073709551616 - g .b)) % 18446744073709551616
 
 -- the length of the whole stripe
 abbrev pub size : Geometry → ℕ

@@ -4,7 +4,7 @@ use column::Device;
 use column::Lost;
 ghost use mathlib.Core.Path.{_≡_};
 ghost use Rattle.base.specs.Refusal.{firstOf};
-ghost use Rattle.shape.specs.Layout.{lowStart};
+ghost use Rattle.shape.specs.Layout.{lowStart, placeBefore};
 ghost use Rattle.shape.specs.Refusals.{library, limitsRefusals, shapeRefusals, stretchRefusals, lossRefusals, unknown, sameDevice, encodeRefusal, writeRefusal, rebuildRefusal, checkRefusal};
 ghost use Rattle.shape.specs.Codes.{namedBy, lossOf, namingOf, noDevices, namedRefusal};
 
@@ -40,6 +40,14 @@ impl Geometry {
         ensures { λ r. ⌜ r ≡ lowStart self role ⌝ }
     {
         role % 4294967296 * (self.b % 4294967296)
+    }
+
+    // From a place in a block to the same place in the block of the role before: a loop over the
+    // roles then needs no product. Modulo 2^64, so that any place may be given.
+    pub fn role_before(self, at: usize) -> usize
+        ensures { λ r. ⌜ r ≡ placeBefore self at ⌝ }
+    {
+        std::num::wrapping_sub_usize(at, self.b)
     }
 
     fn lacks(self, device: Device) -> bool

@@ -310,7 +310,7 @@ fn add_disks(
     let mut at = g.start(to) + i;
     while from < k {
         k -= 1;
-        at -= g.b;
+        at = g.role_before(at);
         let d = chunk::load(&stripe[at..at + WIDTH]);
         chunk::add_disk(p, q, &d);
     }

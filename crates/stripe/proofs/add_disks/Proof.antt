@@ -3,17 +3,15 @@
 use borrow.Author.Needs.{needs, elem-fits}
 use mathlib.Core.Path.{_≡_, refl, sym, ap, subst, _∙_}
 use mathlib.Core.List.{List}
-use Prim.Native.Nat.{ℕ, suc, _+_, _-_, _≤_, _<_}
+use Prim.Native.Nat.{ℕ, suc, _+_, _-_, _≤_}
 use native.Mathlib.Nat.{le-refl}
 use native.Mathlib.Omega.{arith}
 use mir.Syntax.{w8}
 use lib.ListN.{length, getD, take, drop}
 use Rattle.chunk.specs.Chunk.{width}
 use Rattle.chunk.proofs.Laws.{each-at}
-use Rattle.shape.specs.declared.Geometry.{Geometry}
 use Rattle.shape.specs.Layout.{start}
-use Rattle.shape.proofs.Places.{block-end}
-use Rattle.shape.proofs.Stretch.{block-start, stretch-inside, part-at}
+use Rattle.shape.proofs.Stretch.{block-start, before-start, stretch-inside, part-at}
 use Rattle.stripe.specs.Engine.{DisksAdded}
 use Rattle.stripe.proofs.Horner.{tails-more}
 use Rattle.stripe.proofs.add_disks.Statement.{statement}
@@ -26,23 +24,22 @@ Inv-loop g stripe i from to p₀ q₀ k₀ at₀ p q k at =
 abbrev μ-loop : tie.MeasureT-loop
 μ-loop g stripe i from to p₀ q₀ k₀ at₀ p q k at = k
 
--- a block below
-below : (g : Geometry) (i : ℕ) {k at : ℕ} → 0 < k → at ≡ start g k + i → at ≡ start g (k - 1) + i + g .b
-below g i {k} some is =
-    let ends = block-end g (k - 1) in
-    let next : suc (k - 1) ≡ k = omega arith in
-    let same = ap (start g) next in
-    omega arith
-
--- where the next disk's columns stand, and that they do so within the stripe
-place : (c : tie.In-loop Inv-loop μ-loop) → let a = c .before .before .before .before .args in let l = c .before .loop in l .at ≡ start (a .g) (l .k - 1) + a .i + a .g .b
-place c = below (c .before .before .before .before .args .g) (c .before .before .before .before .args .i) (omega arith) (c .before .loop .inv .2)
-
-inside : (c : tie.In-loop Inv-loop μ-loop) → let a = c .before .before .before .before .args in start (a .g) (c .before .loop .k - 1) + a .i + width ≤ length (a .stripe .now)
-inside c =
+-- the stretch of a disk lies within the stripe
+inside : (c : tie.In-loop Inv-loop μ-loop) (k : ℕ) → k ≤ c .before .before .before .before .args .to → let a = c .before .before .before .before .args in start (a .g) k + a .i + width ≤ length (a .stripe .now)
+inside c k h =
     let here = c .before .before .before .before in
     let a = here .args in
-    stretch-inside (a .g) (a .stripe .now) (c .before .loop .k - 1) (a .i) (here .pre .0) record { known = omega arith; fits = here .pre .1 }
+    stretch-inside (a .g) (a .stripe .now) k (a .i) (here .pre .0) record { known = omega arith; fits = here .pre .1 }
+
+-- where the next disk's columns stand
+place : (c : tie.After-role-before Inv-loop μ-loop) → let a = c .before .before .before .before .before .args in c .role-before .result ≡ start (a .g) (c .before .before .loop .k - 1) + a .i
+place c =
+    let here = c .before .before .before .before .before in
+    let a = here .args in
+    let l = c .before .before .loop in
+    let within = inside (c .before) (l .k) (l .inv .1) in
+    let next : l .k ≡ suc (l .k - 1) = omega arith in
+    c .role-before .ensures ∙ before-start (a .g) (l .k - 1) (a .i) (omega (arith, here .pre .0 .block)) (omega arith) (l .inv .2 ∙ ap (λ (k : ℕ). start (a .g) k + a .i) next)
 
 start-requires : tie.Need-start-requires Inv-loop μ-loop
 start-requires c κs = search needs
@@ -67,13 +64,13 @@ loop-holds c = (omega arith, omega arith, ap (λ (a : ℕ). a + c .before .befor
 sub-k : tie.Need-sub-k Inv-loop μ-loop
 sub-k c = omega arith
 
-sub-at : tie.Need-sub-at Inv-loop μ-loop
-sub-at c = let at = place (c .before) in omega arith
+role-before-requires : tie.Need-role-before-requires Inv-loop μ-loop
+role-before-requires c κs = search needs
 
 add-load : tie.Need-add-load Inv-loop μ-loop
 add-load c =
-    let at = place (c .before) in
-    let within = inside (c .before) in
+    let at = place c in
+    let within = inside (c .before) (c .before .before .loop .k - 1) (omega arith) in
     omega arith
 
 sub-load : tie.Need-sub-load Inv-loop μ-loop
@@ -84,8 +81,8 @@ part-load-start c = search needs
 
 part-load-end : tie.Need-part-load-end Inv-loop μ-loop
 part-load-end c =
-    let at = place (c .before) in
-    let within = inside (c .before) in
+    let at = place c in
+    let within = inside (c .before) (c .before .before .loop .k - 1) (omega arith) in
     omega arith
 
 load-requires : tie.Need-load-requires Inv-loop μ-loop
@@ -99,13 +96,11 @@ loop-less c = omega arith
 
 loop-again : tie.Need-loop-again Inv-loop μ-loop
 loop-again c =
-    let in-loop = c .before .before .before .before .before .before .before in
-    let here = in-loop .before .before .before .before in
-    let a = here .args in
-    let l = in-loop .before .loop in
+    let a = c .before .before .before .before .before .before .before .before .before .before .before .args in
+    let l = c .before .before .before .before .before .before .before .before .loop in
     let k = l .k - 1 in
     let d = c .before .before .before .before .load in
-    let at : l .at - a .g .b ≡ start (a .g) k + a .i = let p = place in-loop in omega arith in (
+    let at = place (c .before .before .before .before .before .before) in (
       omega arith,
       omega arith,
       at,
@@ -138,7 +133,7 @@ add-disks-spec =
     add-at
     loop-holds
     sub-k
-    sub-at
+    role-before-requires
     add-load
     sub-load
     part-load-start
