@@ -3,6 +3,7 @@
 // its number and changes nothing. The columns are worked on in chunks; the last may be a part of one.
 use chunk::WIDTH;
 use column::Lost;
+use gf256::Element;
 use losses::Plan;
 use losses::Rule;
 use shape::Geometry;
@@ -155,20 +156,30 @@ fn restore_chunk(g: Geometry, stripe: &mut [u8], i: usize, plan: Plan)
     ensures { λ _. ⌜ ColumnsMapped g i width (λ j c. restoredBy (g .n) plan c) (now (stripe .entry)) (now (stripe .exit)) ⌝ }
 {
     match plan {
-        Plan::ByP(x) => {
-            let p = data_and_p(g, stripe, i, x);
-            set(g, stripe, x, i, WIDTH, p);
-        }
-        Plan::FromData(with_p) => {
-            let s = parities(g, stripe, i);
-            let p = s.p;
-            let q = s.q;
-            set(g, stripe, g.n + 1, i, WIDTH, q);
-            if with_p {
-                set(g, stripe, g.n, i, WIDTH, p);
-            }
-        }
+        Plan::ByP(x) => restore_by_p(g, stripe, i, x),
+        Plan::FromData(both) => restore_from_data(g, stripe, i, both),
         Plan::ByBoth(x, y, rule) => restore_by_both(g, stripe, i, x, y, rule),
+    }
+}
+
+fn restore_by_p(g: Geometry, stripe: &mut [u8], i: usize, x: usize)
+    requires { ⌜ WellShaped g (now stripe) × (i + width ≤ g .b) × (x < g .n + 2) ⌝ }
+    ensures { λ _. ⌜ ColumnsMapped g i width (λ j c. restoredBy (g .n) (Plan.ByP x) c) (now (stripe .entry)) (now (stripe .exit)) ⌝ }
+{
+    let p = data_and_p(g, stripe, i, x);
+    set(g, stripe, x, i, WIDTH, p);
+}
+
+fn restore_from_data(g: Geometry, stripe: &mut [u8], i: usize, both: bool)
+    requires { ⌜ WellShaped g (now stripe) × (i + width ≤ g .b) ⌝ }
+    ensures { λ _. ⌜ ColumnsMapped g i width (λ j c. restoredBy (g .n) (Plan.FromData both) c) (now (stripe .entry)) (now (stripe .exit)) ⌝ }
+{
+    let s = parities(g, stripe, i);
+    let p = s.p;
+    let q = s.q;
+    set(g, stripe, g.n + 1, i, WIDTH, q);
+    if both {
+        set(g, stripe, g.n, i, WIDTH, p);
     }
 }
 
@@ -177,55 +188,93 @@ fn restore_by_both(g: Geometry, stripe: &mut [u8], i: usize, x: usize, y: usize,
     ensures { λ _. ⌜ ColumnsMapped g i width (λ j c. solved (g .n) x y rule c) (now (stripe .entry)) (now (stripe .exit)) ⌝ }
 {
     let s = survivors(g, stripe, i, x, y);
-    let mut p = s.p;
-    let mut q = s.q;
     match rule {
-        Rule::Mixed(a, b) => {
-            let first = chunk::combine(a, p, b, q);
-            chunk::add(&mut p, &first);
-            set(g, stripe, y, i, WIDTH, p);
-            set(g, stripe, x, i, WIDTH, first);
-        }
-        Rule::Carried(c) => {
-            chunk::add_product(&mut q, c, p);
-            set(g, stripe, y, i, WIDTH, q);
-            set(g, stripe, x, i, WIDTH, p);
-        }
+        Rule::Mixed(a, b) => set_mixed(g, stripe, i, x, y, a, b, s),
+        Rule::Carried(c) => set_carried(g, stripe, i, x, y, c, s),
     }
 }
 
-// The same for a block below a chunk.
+// The first is a p + b q, the second what is left of p.
+fn set_mixed(
+    g: Geometry,
+    stripe: &mut [u8],
+    i: usize,
+    x: usize,
+    y: usize,
+    a: Element,
+    b: Element,
+    s: Sums,
+)
+    requires { ⌜ WellShaped g (now stripe) × (i + width ≤ g .b) × (x < g .n + 2) × (y < g .n + 2) × Survivors g i width x y (now stripe) (s .p) (s .q) ⌝ }
+    ensures { λ _. ⌜ ColumnsMapped g i width (λ j c. solved (g .n) x y (Rule.Mixed a b) c) (now (stripe .entry)) (now (stripe .exit)) ⌝ }
+{
+    let mut p = s.p;
+    let q = s.q;
+    let first = chunk::combine(a, p, b, q);
+    chunk::add(&mut p, &first);
+    set(g, stripe, y, i, WIDTH, p);
+    set(g, stripe, x, i, WIDTH, first);
+}
+
+// The first is p, the second q + c p.
+fn set_carried(g: Geometry, stripe: &mut [u8], i: usize, x: usize, y: usize, c: Element, s: Sums)
+    requires { ⌜ WellShaped g (now stripe) × (i + width ≤ g .b) × (x < g .n + 2) × (y < g .n + 2) × Survivors g i width x y (now stripe) (s .p) (s .q) ⌝ }
+    ensures { λ _. ⌜ ColumnsMapped g i width (λ j c′. solved (g .n) x y (Rule.Carried c) c′) (now (stripe .entry)) (now (stripe .exit)) ⌝ }
+{
+    let p = s.p;
+    let mut q = s.q;
+    chunk::add_product(&mut q, c, p);
+    set(g, stripe, y, i, WIDTH, q);
+    set(g, stripe, x, i, WIDTH, p);
+}
+
+// ---- the same for a block below a chunk
+
 fn restore_part(g: Geometry, stripe: &mut [u8], plan: Plan)
     requires { ⌜ WellShaped g (now stripe) × (g .b < width) × KnownPlan (g .n) plan ⌝ }
     ensures { λ _. ⌜ now (stripe .exit) ≡ lift g (λ i c. restoredBy (g .n) plan c) (now (stripe .entry)) ⌝ }
 {
-    let w = g.b;
     match plan {
-        Plan::ByP(x) => {
-            let s = part_sums(g, stripe, 0, x, g.n + 1);
-            let p = s.p;
-            set(g, stripe, x, 0, w, p);
-        }
-        Plan::FromData(with_p) => {
-            let s = part_sums(g, stripe, 0, g.n, g.n + 1);
-            let p = s.p;
-            let q = s.q;
-            set(g, stripe, g.n + 1, 0, w, q);
-            if with_p {
-                set(g, stripe, g.n, 0, w, p);
-            }
-        }
-        Plan::ByBoth(x, y, rule) => {
-            let s = part_sums(g, stripe, 0, x, y);
-            let p = s.p;
-            let q = s.q;
-            let new = losses::solve(rule, p, q);
-            let first = new.first;
-            let second = new.second;
-            set(g, stripe, y, 0, w, second);
-            set(g, stripe, x, 0, w, first);
-        }
+        Plan::ByP(x) => part_by_p(g, stripe, x),
+        Plan::FromData(both) => part_from_data(g, stripe, both),
+        Plan::ByBoth(x, y, rule) => part_by_both(g, stripe, x, y, rule),
     }
+}
+
+fn part_by_p(g: Geometry, stripe: &mut [u8], x: usize)
+    requires { ⌜ WellShaped g (now stripe) × (g .b < width) × (x < g .n + 2) ⌝ }
+    ensures { λ _. ⌜ now (stripe .exit) ≡ lift g (λ i c. restoredBy (g .n) (Plan.ByP x) c) (now (stripe .entry)) ⌝ }
+{
+    let s = part_sums(g, stripe, 0, x, g.n + 1);
+    let p = s.p;
+    set(g, stripe, x, 0, g.b, p);
+}
+
+fn part_from_data(g: Geometry, stripe: &mut [u8], both: bool)
+    requires { ⌜ WellShaped g (now stripe) × (g .b < width) ⌝ }
+    ensures { λ _. ⌜ now (stripe .exit) ≡ lift g (λ i c. restoredBy (g .n) (Plan.FromData both) c) (now (stripe .entry)) ⌝ }
+{
+    let s = part_sums(g, stripe, 0, g.n, g.n + 1);
+    let p = s.p;
+    let q = s.q;
+    set(g, stripe, g.n + 1, 0, g.b, q);
+    if both {
+        set(g, stripe, g.n, 0, g.b, p);
+    }
+}
+
+fn part_by_both(g: Geometry, stripe: &mut [u8], x: usize, y: usize, rule: Rule)
+    requires { ⌜ WellShaped g (now stripe) × (g .b < width) × (x < g .n + 2) × (y < g .n + 2) ⌝ }
+    ensures { λ _. ⌜ now (stripe .exit) ≡ lift g (λ i c. solved (g .n) x y rule c) (now (stripe .entry)) ⌝ }
+{
+    let s = part_sums(g, stripe, 0, x, y);
+    let p = s.p;
+    let q = s.q;
+    let new = losses::solve(rule, p, q);
+    let first = new.first;
+    let second = new.second;
+    set(g, stripe, y, 0, g.b, second);
+    set(g, stripe, x, 0, g.b, first);
 }
 
 // ---- the sums over the disks, by Horner's rule (equation 21) from the highest disk down

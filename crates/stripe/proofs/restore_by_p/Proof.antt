@@ -1,0 +1,27 @@
+-- `stripe::restore_by_p` meets its contract: role x gets the sum of the data and P without it.
+-- Assumes nothing.
+use borrow.Author.Needs.{needs}
+use mathlib.Core.Path.{ap}
+use Prim.Native.Nat.{ℕ, _+_}
+use Rattle.column.specs.Column.{put}
+use Rattle.shape.specs.Layout.{column}
+use Rattle.shape.proofs.Columns.{columns-as}
+use Rattle.stripe.proofs.restore_by_p.Statement.{statement}
+use Rattle.stripe.proofs.restore_by_p.Tie as tie
+
+data-and-p-requires : tie.Need-data-and-p-requires
+data-and-p-requires c κs = search needs
+
+set-requires : tie.Need-set-requires
+set-requires c κs = search needs
+
+same-length : tie.Need-same-length
+same-length c = search needs
+
+returns : tie.Need-returns
+returns c =
+    let a = c .before .before .before .before .before .before .before .args in
+    columns-as (c .before .before .set .ensures) (λ j h. ap (λ (v : ℕ). put (a .x) v (column (a .g) (a .stripe .now) (a .i + j))) (c .before .before .before .before .data-and-p .ensures j h))
+
+pub restore-by-p-spec : {M : Type 1} → statement M
+restore-by-p-spec = tie.close (tie.spec data-and-p-requires set-requires same-length returns)
