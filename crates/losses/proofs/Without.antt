@@ -1,23 +1,22 @@
 -- A column without two roles: 00 at these, and what it was at every other. So the sums of such a column are those of the plan, where none is
--- lost, both parities are, or Q beside another role; and what is solved from them is the plan's.
+-- lost or both parities are; and what is solved from them is the plan's.
 -- Assumes nothing.
 use mathlib.Core.Path.{_≡_, refl, ap, ap₂, _∙_}
 use mathlib.Core.Logic.{_≢_, _⊎_, inl, inr}
 use mathlib.Core.Bool.{Bool, true, false}
 use Prim.Native.Nat.{ℕ, _+_, _≤_}
-use native.Mathlib.Numerals.{add-one}
 use native.Mathlib.Omega.{arith}
-use borrow.Author.Tests.{eq-eqb, ne-eqb}
+use borrow.Author.Tests.{eq-eqb}
 use lib.Dec.{eqb}
 use Rattle.base.specs.Choice.{choose}
 use Rattle.gf256.specs.Field.{sum, product}
-use Rattle.gf256.proofs.Laws.{sum-comm, zero-sum}
-use Rattle.column.specs.Column.{Column, put, total, parityP, parityQ, syndromeP, syndromeQ, reedSolomon}
+use Rattle.gf256.proofs.Laws.{zero-sum}
+use Rattle.column.specs.Column.{Column, put, parityP, parityQ, syndromeP, syndromeQ, reedSolomon}
 use Rattle.column.proofs.Put.{put-other}
 use Rattle.column.proofs.Total.{total-same}
 use Rattle.losses.specs.declared.Rule.{Rule}
 use Rattle.losses.specs.declared.Rule.the-variants.{Mixed, Carried}
-use Rattle.losses.specs.Losses.{element, solution, without, byP, solved}
+use Rattle.losses.specs.Losses.{element, solution, without, solved}
 
 module _ (x y : ℕ) (c : Column) where
   pub without-other : (r : ℕ) → r ≢ x → r ≢ y → without x y c r ≡ c r
@@ -51,17 +50,6 @@ module _ (n : ℕ) (c : Column) where
     ap₂ sum (without-lost n (n + 1) c n (inl refl)) (kept-p n (n + 1) c n (omega arith) (omega arith)) ∙ zero-sum (parityP n c),
     ap₂ sum (without-lost n (n + 1) c (n + 1) (inr refl)) (kept-q n (n + 1) c n (omega arith) (omega arith)) ∙ zero-sum (parityQ reedSolomon n c),
   )
-
-  -- equation 1 without role x and without Q
-  pub q-lost : (x : ℕ) → syndromeP n (without x (n + 1) c) ≡ byP n x c
-  unfolding total
-  q-lost x =
-      ap₂ sum (same n (omega arith)) (total-same n (λ k h. same k (omega arith)))
-      ∙ sum-comm (put x 0 c n) (parityP n (put x 0 c))
-      ∙ rw add-one
-    where
-      same : (k : ℕ) → k ≢ n + 1 → without x (n + 1) c k ≡ put x 0 c k
-      same k other = rw (ne-eqb k (n + 1) other)
 
 -- the bytes that a rule gives, put on the lost roles
 module _ (n x y : ℕ) (c : Column) where

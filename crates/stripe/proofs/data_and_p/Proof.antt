@@ -19,20 +19,20 @@ use Rattle.stripe.proofs.data_and_p.Statement.{statement}
 use Rattle.stripe.proofs.data_and_p.Tie as tie
 
 abbrev Inv-loop : tie.InvT-loop
-Inv-loop g stripe i x p₀ k₀ p k = (k ≤ g .n + 1) × Holds width (λ j. total k (put x 0 (column g stripe (i + j)))) p
+Inv-loop g stripe i w x p₀ k₀ p k = (k ≤ g .n + 1) × Holds w (λ j. total k (put x 0 (column g stripe (i + j)))) p
 
 abbrev μ-loop : tie.MeasureT-loop
-μ-loop g stripe i x p₀ k₀ p k = g .n + 1 - k
+μ-loop g stripe i w x p₀ k₀ p k = g .n + 1 - k
 
 loop-holds : tie.Need-loop-holds Inv-loop μ-loop
 unfolding total
-loop-holds c = (omega arith, λ j h. getD-replicate width j 0 0 h)
+loop-holds c = (omega arith, λ j h. getD-replicate width j 0 0 (omega (arith, c .before .pre .2)))
 
 add-if1 : tie.Need-add-if1 Inv-loop μ-loop
 add-if1 c = omega (arith, c .before .before .before .pre .0 .disks)
 
 load-requires : tie.Need-load-requires Inv-loop μ-loop
-load-requires c κs = let pre = c .before .before .before .before .before .pre in (pre .0, record { known = omega arith; fits = pre .1 }, omega arith)
+load-requires c κs = let pre = c .before .before .before .before .before .pre in (pre .0, record { known = omega arith; fits = pre .1 }, pre .2)
 
 add-requires : tie.Need-add-requires Inv-loop μ-loop
 add-requires c κs = search needs
@@ -54,7 +54,7 @@ loop-again c =
           ⊎-elim
           (λ w.
           ap (λ (x : List ℕ). getD x j 0) (w .5 ∙ w .4 .ensures)
-          ∙ each-at _ j h
+          ∙ each-at _ j (omega (arith, c .before .before .before .before .before .pre .2))
           ∙ ap₂ sum (l .inv .1 j h) (w .1 .ensures j h ∙ sym (put-other (a .x) 0 e (l .k) (w .0 .taken))))
           (λ w.
           ap (λ (x : List ℕ). getD x j 0) (w .1)
