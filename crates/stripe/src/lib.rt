@@ -166,7 +166,7 @@ fn restore_by_p(g: Geometry, stripe: &mut [u8], i: usize, x: usize)
     requires { ⌜ WellShaped g (now stripe) × (i + width ≤ g .b) × (x < g .n + 2) ⌝ }
     ensures { λ _. ⌜ ColumnsMapped g i width (λ j c. restoredBy (g .n) (Plan.ByP x) c) (now (stripe .entry)) (now (stripe .exit)) ⌝ }
 {
-    let p = data_and_p(g, stripe, i, WIDTH, x);
+    let p = sum_without(g, stripe, i, WIDTH, x);
     set(g, stripe, x, i, WIDTH, p);
 }
 
@@ -245,7 +245,7 @@ fn part_by_p(g: Geometry, stripe: &mut [u8], x: usize)
     requires { ⌜ WellShaped g (now stripe) × (g .b < width) × (x < g .n + 2) ⌝ }
     ensures { λ _. ⌜ now (stripe .exit) ≡ lift g (λ i c. restoredBy (g .n) (Plan.ByP x) c) (now (stripe .entry)) ⌝ }
 {
-    let p = data_and_p(g, stripe, 0, g.b, x);
+    let p = sum_without(g, stripe, 0, g.b, x);
     set(g, stripe, x, 0, g.b, p);
 }
 
@@ -386,7 +386,7 @@ fn part_sums(g: Geometry, stripe: &[u8], i: usize, x: usize, y: usize) -> Sums
 }
 
 // The sum of the data and P of each column without role x. Q is neither read nor summed.
-fn data_and_p(g: Geometry, stripe: &[u8], i: usize, w: usize, x: usize) -> [u8; WIDTH]
+fn sum_without(g: Geometry, stripe: &[u8], i: usize, w: usize, x: usize) -> [u8; WIDTH]
     requires { ⌜ WellShaped g (now stripe) × (i + w ≤ g .b) × (w ≤ width) ⌝ }
     ensures { λ r. ⌜ Holds w (λ j. byP (g .n) x (column g (now (stripe .entry)) (i + j))) r ⌝ }
 {

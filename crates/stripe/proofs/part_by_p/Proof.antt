@@ -9,8 +9,8 @@ use Rattle.shape.proofs.Columns.{columns-as, columns-all}
 use Rattle.stripe.proofs.part_by_p.Statement.{statement}
 use Rattle.stripe.proofs.part_by_p.Tie as tie
 
-data-and-p-requires : tie.Need-data-and-p-requires
-data-and-p-requires c κs = search needs
+sum-without-requires : tie.Need-sum-without-requires
+sum-without-requires c κs = search needs
 
 set-requires : tie.Need-set-requires
 set-requires c κs = search needs
@@ -23,7 +23,7 @@ returns c =
     let here = c .before .before .before .before .before .before .before in
     let a = here .args in
     columns-all (here .pre .0)
-    (columns-as (c .before .before .set .ensures) (λ j h. ap (λ (v : ℕ). put (a .x) v (column (a .g) (a .stripe .now) (0 + j))) (c .before .before .before .before .data-and-p .ensures j h)))
+    (columns-as (c .before .before .set .ensures) (λ j h. ap (λ (v : ℕ). put (a .x) v (column (a .g) (a .stripe .now) (0 + j))) (c .before .before .before .before .sum-without .ensures j h)))
 
 pub part-by-p-spec : {M : Type 1} → statement M
-part-by-p-spec = tie.close (tie.spec data-and-p-requires set-requires same-length returns)
+part-by-p-spec = tie.close (tie.spec sum-without-requires set-requires same-length returns)

@@ -9,8 +9,8 @@ use Rattle.shape.proofs.Columns.{columns-as}
 use Rattle.stripe.proofs.restore_by_p.Statement.{statement}
 use Rattle.stripe.proofs.restore_by_p.Tie as tie
 
-data-and-p-requires : tie.Need-data-and-p-requires
-data-and-p-requires c κs = search needs
+sum-without-requires : tie.Need-sum-without-requires
+sum-without-requires c κs = search needs
 
 set-requires : tie.Need-set-requires
 set-requires c κs = search needs
@@ -21,7 +21,7 @@ same-length c = search needs
 returns : tie.Need-returns
 returns c =
     let a = c .before .before .before .before .before .before .before .args in
-    columns-as (c .before .before .set .ensures) (λ j h. ap (λ (v : ℕ). put (a .x) v (column (a .g) (a .stripe .now) (a .i + j))) (c .before .before .before .before .data-and-p .ensures j h))
+    columns-as (c .before .before .set .ensures) (λ j h. ap (λ (v : ℕ). put (a .x) v (column (a .g) (a .stripe .now) (a .i + j))) (c .before .before .before .before .sum-without .ensures j h))
 
 pub restore-by-p-spec : {M : Type 1} → statement M
-restore-by-p-spec = tie.close (tie.spec data-and-p-requires set-requires same-length returns)
+restore-by-p-spec = tie.close (tie.spec sum-without-requires set-requires same-length returns)

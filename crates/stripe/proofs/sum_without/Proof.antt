@@ -1,4 +1,4 @@
--- `stripe::data_and_p` meets its contract. The loop's invariant: in every column, p is the sum over the roles below k without x.
+-- `stripe::sum_without` meets its contract. The loop's invariant: in every column, p is the sum over the roles below k without x.
 -- Assumes nothing.
 use borrow.Author.Needs.{needs}
 use mathlib.Core.Path.{_≡_, sym, ap, ap₂, _∙_}
@@ -15,8 +15,8 @@ use Rattle.chunk.proofs.Laws.{each-at}
 use Rattle.column.specs.Column.{put, total}
 use Rattle.column.proofs.Put.{put-same, put-other}
 use Rattle.shape.specs.Layout.{column}
-use Rattle.stripe.proofs.data_and_p.Statement.{statement}
-use Rattle.stripe.proofs.data_and_p.Tie as tie
+use Rattle.stripe.proofs.sum_without.Statement.{statement}
+use Rattle.stripe.proofs.sum_without.Tie as tie
 
 abbrev Inv-loop : tie.InvT-loop
 Inv-loop g stripe i w x p₀ k₀ p k = (k ≤ g .n + 1) × Holds w (λ j. total k (put x 0 (column g stripe (i + j)))) p
@@ -71,8 +71,8 @@ returns c =
     let l = c .before .before .loop in
     l .inv .1 j h ∙ ap (λ (k : ℕ). total k (put (a .x) 0 (column (a .g) (a .stripe .now) (a .i + j)))) (omega arith)
 
-pub data-and-p-spec : {M : Type 1} → statement M
-data-and-p-spec =
+pub sum-without-spec : {M : Type 1} → statement M
+sum-without-spec =
     tie.close
     (tie.spec
     Inv-loop
