@@ -23,7 +23,7 @@ check-columns-requires c κs =
     (well-shaped (a .g) (a .stripe .now) (accepted .0), accepted .1)
 
 same-length : tie.Need-same-length
-same-length c = search needs
+same-length c = c .before .before .check-columns .kept .1 .1 .0
 
 returns-2 : tie.Need-returns-2
 returns-2 c =

@@ -38,7 +38,7 @@ verdicts-of-requires : tie.Need-verdicts-of-requires
 verdicts-of-requires c κs = search needs
 
 same-length : tie.Need-same-length
-same-length c = search needs
+same-length c = c .before .before .verdicts-of .kept .1 .1 .1 .0
 
 returns : tie.Need-returns
 returns c =

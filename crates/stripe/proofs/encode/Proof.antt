@@ -28,7 +28,7 @@ restore-requires : tie.Need-restore-requires
 restore-requires c κs = (accepted (c .before), tt)
 
 same-length : tie.Need-same-length
-same-length c = search needs
+same-length c = c .before .before .restore .kept .1 .0
 
 returns-2 : tie.Need-returns-2
 unfolding afterEncode

@@ -16,7 +16,7 @@ set-requires : tie.Need-set-requires
 set-requires c κs = search needs
 
 same-length : tie.Need-same-length
-same-length c = search needs
+same-length c = c .before .before .set .ensures .kept
 
 returns : tie.Need-returns
 returns c =

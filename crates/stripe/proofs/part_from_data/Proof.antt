@@ -27,7 +27,7 @@ set-requires-2 : tie.Need-set-requires-2
 set-requires-2 c κs = search needs
 
 same-length : tie.Need-same-length
-same-length c = search needs
+same-length c = c .before .before .set2 .ensures .kept ∙ c .before .before .before .before .before .before .before .set .ensures .kept
 
 returns : tie.Need-returns
 returns c =
@@ -42,7 +42,7 @@ returns c =
     (λ j h. ap₂ (λ (v w : ℕ). put n v (put (n + 1) w (e j))) (sums .first j (omega arith) ∙ parities-lost n (e j) .0) (sums .second j (omega arith) ∙ parities-lost n (e j) .1))))
 
 same-length-2 : tie.Need-same-length-2
-same-length-2 c = search needs
+same-length-2 c = c .before .before .before .set .ensures .kept
 
 returns-2 : tie.Need-returns-2
 returns-2 c =

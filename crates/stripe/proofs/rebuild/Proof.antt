@@ -53,7 +53,7 @@ restore-requires c κs =
     (ask .0, subst (KnownPlan (a .g .n)) (sym (plan c)) (plan-known (a .g .n) (a .lost) (ask .1)))
 
 same-length : tie.Need-same-length
-same-length c = search needs
+same-length c = c .before .before .restore .kept .1 .0
 
 returns-2 : tie.Need-returns-2
 unfolding afterRebuild

@@ -25,7 +25,7 @@ named-refusal-requires : tie.Need-named-refusal-requires
 named-refusal-requires c κs = search needs
 
 same-length : tie.Need-same-length
-same-length c = search needs
+same-length c = c .before .before .rebuild .kept .1 .0
 
 returns : tie.Need-returns
 returns c =

@@ -20,7 +20,7 @@ restore-part-requires : tie.Need-restore-part-requires Inv-loop μ-loop
 restore-part-requires c κs = search needs
 
 same-length : tie.Need-same-length Inv-loop μ-loop
-same-length c = search needs
+same-length c = c .before .before .restore-part .kept .1 .0
 
 returns : tie.Need-returns Inv-loop μ-loop
 returns c = search needs

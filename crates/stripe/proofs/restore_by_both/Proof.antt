@@ -20,13 +20,13 @@ set-carried-requires : tie.Need-set-carried-requires
 set-carried-requires c κs = search needs
 
 same-length : tie.Need-same-length
-same-length c = search needs
+same-length c = c .before .before .set-mixed .ensures .kept
 
 returns : tie.Need-returns
 returns c = rw (c .before .before .before .before .before .rule .given .1) (c .before .before .set-mixed .ensures)
 
 same-length-2 : tie.Need-same-length-2
-same-length-2 c = search needs
+same-length-2 c = c .before .before .set-carried .ensures .kept
 
 returns-2 : tie.Need-returns-2
 returns-2 c = rw (c .before .before .before .before .before .rule2 .given .1) (c .before .before .set-carried .ensures)

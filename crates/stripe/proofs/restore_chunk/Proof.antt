@@ -23,19 +23,19 @@ restore-by-both-requires : tie.Need-restore-by-both-requires
 restore-by-both-requires c κs = let pre = c .before .before .before .before .before .pre in let roles = rw (c .before .before .plan3 .given .1) at (pre .2) in (pre .0, pre .1, roles .0, roles .1)
 
 same-length : tie.Need-same-length
-same-length c = search needs
+same-length c = c .before .before .restore-by-p .ensures .kept
 
 returns : tie.Need-returns
 returns c = rw (c .before .before .before .before .before .plan .given .1) (c .before .before .restore-by-p .ensures)
 
 same-length-2 : tie.Need-same-length-2
-same-length-2 c = search needs
+same-length-2 c = c .before .before .restore-from-data .ensures .kept
 
 returns-2 : tie.Need-returns-2
 returns-2 c = rw (c .before .before .before .before .before .plan2 .given .1) (c .before .before .restore-from-data .ensures)
 
 same-length-3 : tie.Need-same-length-3
-same-length-3 c = search needs
+same-length-3 c = c .before .before .restore-by-both .ensures .kept
 
 returns-3 : tie.Need-returns-3
 returns-3 c = rw (c .before .before .before .before .before .plan3 .given .1) (c .before .before .restore-by-both .ensures)

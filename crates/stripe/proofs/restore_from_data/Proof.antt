@@ -1,7 +1,7 @@
 -- `stripe::restore_from_data` meets its contract: the parities of the data, both or the second.
 -- Assumes nothing.
 use borrow.Author.Needs.{needs}
-use mathlib.Core.Path.{ap, ap₂}
+use mathlib.Core.Path.{ap, ap₂, _∙_}
 use Prim.Native.Nat.{ℕ, _+_}
 use Rattle.column.specs.Column.{put}
 use Rattle.shape.specs.Layout.{column}
@@ -22,7 +22,7 @@ set-requires-2 : tie.Need-set-requires-2
 set-requires-2 c κs = search needs
 
 same-length : tie.Need-same-length
-same-length c = search needs
+same-length c = c .before .before .set2 .ensures .kept ∙ c .before .before .before .before .before .before .before .set .ensures .kept
 
 returns : tie.Need-returns
 returns c =
@@ -34,7 +34,7 @@ returns c =
     (λ j h. ap₂ (λ (v w : ℕ). put n v (put (n + 1) w (column (a .g) (a .stripe .now) (a .i + j)))) (sums .first j h) (sums .second j h)))
 
 same-length-2 : tie.Need-same-length-2
-same-length-2 c = search needs
+same-length-2 c = c .before .before .before .set .ensures .kept
 
 returns-2 : tie.Need-returns-2
 returns-2 c =

@@ -23,19 +23,19 @@ part-by-both-requires : tie.Need-part-by-both-requires
 part-by-both-requires c κs = let pre = c .before .before .before .before .before .pre in let roles = rw (c .before .before .plan3 .given .1) at (pre .2) in (pre .0, pre .1, roles .0, roles .1)
 
 same-length : tie.Need-same-length
-same-length c = search needs
+same-length c = c .before .before .part-by-p .kept .1 .0
 
 returns : tie.Need-returns
 returns c = rw (c .before .before .before .before .before .plan .given .1) (c .before .before .part-by-p .ensures)
 
 same-length-2 : tie.Need-same-length-2
-same-length-2 c = search needs
+same-length-2 c = c .before .before .part-from-data .kept .1 .0
 
 returns-2 : tie.Need-returns-2
 returns-2 c = rw (c .before .before .before .before .before .plan2 .given .1) (c .before .before .part-from-data .ensures)
 
 same-length-3 : tie.Need-same-length-3
-same-length-3 c = search needs
+same-length-3 c = c .before .before .part-by-both .kept .1 .0
 
 returns-3 : tie.Need-returns-3
 returns-3 c = rw (c .before .before .before .before .before .plan3 .given .1) (c .before .before .part-by-both .ensures)

@@ -22,7 +22,7 @@ set-requires-2 : tie.Need-set-requires-2
 set-requires-2 c κs = search needs
 
 same-length : tie.Need-same-length
-same-length c = search needs
+same-length c = c .before .before .set2 .ensures .kept ∙ c .before .before .before .before .before .before .set .ensures .kept
 
 returns : tie.Need-returns
 returns c =

@@ -1,6 +1,7 @@
 -- `write::store_all` meets its contract: three stretches set one after the other.
 -- Assumes nothing.
 use borrow.Author.Needs.{needs}
+use mathlib.Core.Path.{_∙_}
 use Rattle.shape.proofs.Columns.{columns-then}
 use Rattle.write.proofs.store_all.Statement.{statement}
 use Rattle.write.proofs.store_all.Tie as tie
@@ -18,7 +19,7 @@ set-requires-3 : tie.Need-set-requires-3
 set-requires-3 c κs = search needs
 
 same-length : tie.Need-same-length
-same-length c = search needs
+same-length c = c .before .before .set3 .ensures .kept ∙ c .before .before .before .before .before .before .set2 .ensures .kept ∙ c .before .before .before .before .before .before .before .before .before .before .set .ensures .kept
 
 returns : tie.Need-returns
 returns c = columns-then (columns-then (c .before .before .before .before .before .before .before .before .before .before .set .ensures) (c .before .before .before .before .before .before .set2 .ensures)) (c .before .before .set3 .ensures)

@@ -16,7 +16,7 @@ store-all-requires : tie.Need-store-all-requires
 store-all-requires c κs = search needs
 
 same-length : tie.Need-same-length
-same-length c = search needs
+same-length c = c .before .before .store-all .ensures .kept
 
 returns : tie.Need-returns
 returns c =
