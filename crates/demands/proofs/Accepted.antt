@@ -17,9 +17,11 @@ use Rattle.column.specs.Column.{Column, encodeColumn, writeColumn, rebuildColum
 use Rattle.column.specs.Lawful.{Symbols}
 use Rattle.shape.specs.declared.Geometry.{Geometry}
 use Rattle.shape.specs.Layout.{size, column, columnAt, roleAt, lift}
-use Rattle.shape.specs.Refusals.{encodeRefusal, writeRefusal, rebuildRefusal}
+use Rattle.shape.specs.Refusals.{encodeRefusal, writeRefusal}
+use Rattle.devices.specs.Refusals.{rebuildRefusal}
 use Rattle.shape.proofs.Places.{length-lift, lift-at}
-use Rattle.shape.proofs.Refused.{well-shaped, write-accepted, rebuild-accepted}
+use Rattle.shape.proofs.Refused.{well-shaped, write-accepted}
+use Rattle.devices.proofs.Refused.{rebuild-accepted}
 use Rattle.write.specs.Write.{covers, written, afterWrite}
 use Rattle.stripe.specs.Stripe.{encoded, rebuilt}
 use Rattle.stripe.specs.Calls.{afterEncode, afterRebuild}

@@ -19,11 +19,12 @@ use Rattle.column.specs.Column.{reedSolomon}
 use Rattle.column.specs.Loss.{named, overwrite}
 use Rattle.column.proofs.Loss.{spared-of}
 use Rattle.shape.specs.declared.Geometry.{Geometry}
-use Rattle.shape.specs.declared.Naming.{Naming}
-use Rattle.shape.specs.declared.Naming.the-variants.{Loss, Wrong}
+use Rattle.devices.specs.declared.Naming.{Naming}
+use Rattle.devices.specs.declared.Naming.the-variants.{Loss, Wrong}
 use Rattle.shape.specs.Layout.{column}
-use Rattle.shape.specs.Refusals.{library, shapeRefusals, encodeRefusal, writeRefusal, rebuildRefusal, WellShaped}
-use Rattle.shape.specs.Codes.{namingOf, namedRefusal}
+use Rattle.shape.specs.Refusals.{library, shapeRefusals, encodeRefusal, writeRefusal, WellShaped}
+use Rattle.devices.specs.Refusals.{rebuildRefusal}
+use Rattle.devices.specs.Codes.{namingOf, namedRefusal}
 use Rattle.shape.proofs.Places.{length-lift, lift-at, by-columns}
 use Rattle.shape.proofs.Refused.{well-shaped}
 use Rattle.write.specs.Write.{written, afterWrite}

@@ -21,15 +21,17 @@ use Rattle.base.specs.Choice.{choose}
 use Rattle.column.specs.Column.{Column, roleOf, newByte, encodeColumn, writeColumn, rebuildColumn, reedSolomon}
 use Rattle.shape.specs.Layout.{column}
 use Rattle.write.specs.Write.{covers, afterWrite}
-use Rattle.shape.specs.Refusals.{encodeRefusal, writeRefusal, rebuildRefusal, WellShaped}
-use Rattle.shape.specs.Codes.{namingOf, namedRefusal}
+use Rattle.shape.specs.Refusals.{encodeRefusal, writeRefusal, WellShaped}
+use Rattle.devices.specs.Refusals.{rebuildRefusal}
+use Rattle.devices.specs.Codes.{namingOf, namedRefusal}
 use Rattle.stripe.specs.Stripe.{rebuilt}
 use Rattle.stripe.specs.Calls.{afterEncode, afterRebuild, rebuiltBy}
 use Rattle.base.proofs.Refused.{left-done}
 use Rattle.shape.proofs.Places.{by-columns}
-use Rattle.shape.proofs.Exchanged.{rebuild-exchanged}
-use Rattle.shape.proofs.Order.{refusal-in-any-order, codes-exchanged, code-refusal-in-any-order}
-use Rattle.shape.proofs.Refused.{well-shaped, write-accepted, rebuild-accepted}
+use Rattle.devices.proofs.Exchanged.{rebuild-exchanged}
+use Rattle.devices.proofs.Order.{refusal-in-any-order, codes-exchanged, code-refusal-in-any-order}
+use Rattle.shape.proofs.Refused.{well-shaped, write-accepted}
+use Rattle.devices.proofs.Refused.{rebuild-accepted}
 use Rattle.column.proofs.Loss.{known-role}
 use Rattle.column.proofs.Put.{put-same}
 use Rattle.column.proofs.Total.{total-same}

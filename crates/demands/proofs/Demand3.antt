@@ -22,12 +22,14 @@ use Rattle.column.proofs.Loss.{overwrite-spares, overwrite-symbols}
 use Rattle.column.proofs.Rebuild.{rebuild-symbols}
 use Rattle.column.proofs.Series.{kept-encoded}
 use Rattle.shape.specs.declared.Geometry.{Geometry}
-use Rattle.shape.specs.declared.Naming.{Naming}
-use Rattle.shape.specs.declared.Naming.the-variants.{Loss, Wrong}
+use Rattle.devices.specs.declared.Naming.{Naming}
+use Rattle.devices.specs.declared.Naming.the-variants.{Loss, Wrong}
 use Rattle.shape.specs.Layout.{column}
-use Rattle.shape.specs.Refusals.{encodeRefusal, writeRefusal, rebuildRefusal, WellShaped}
-use Rattle.shape.specs.Codes.{namedRefusal}
-use Rattle.shape.proofs.Refused.{well-shaped, write-accepted, rebuild-accepted}
+use Rattle.shape.specs.Refusals.{encodeRefusal, writeRefusal, WellShaped}
+use Rattle.devices.specs.Refusals.{rebuildRefusal}
+use Rattle.devices.specs.Codes.{namedRefusal}
+use Rattle.shape.proofs.Refused.{well-shaped, write-accepted}
+use Rattle.devices.proofs.Refused.{rebuild-accepted}
 use Rattle.write.specs.Write.{covers, afterWrite}
 use Rattle.stripe.specs.Calls.{afterRebuild}
 use Rattle.demands.specs.Layout.{LawfulLayout, layoutOf}

@@ -19,14 +19,16 @@ use Rattle.column.specs.Column.{roleOf}
 use Rattle.column.specs.Loss.{Known, KnownLoss, Spared, overwrite}
 use Rattle.column.proofs.Loss.{known-role, overwrite-one, overwrite-first, overwrite-second, overwrite-spares, overwrite-symbols}
 use Rattle.shape.specs.declared.Geometry.{Geometry}
-use Rattle.shape.specs.declared.Naming.{Naming}
-use Rattle.shape.specs.declared.Naming.the-variants.{Loss}
+use Rattle.devices.specs.declared.Naming.{Naming}
+use Rattle.devices.specs.declared.Naming.the-variants.{Loss}
 use Rattle.shape.specs.Layout.{size, column}
-use Rattle.shape.specs.Refusals.{library, shapeRefusals, stretchRefusals, lossRefusals, encodeRefusal, writeRefusal, rebuildRefusal, WellShaped}
-use Rattle.shape.specs.Codes.{namedBy, namingOf, namedRefusal}
+use Rattle.shape.specs.Refusals.{library, shapeRefusals, stretchRefusals, encodeRefusal, writeRefusal, WellShaped}
+use Rattle.devices.specs.Refusals.{lossRefusals, rebuildRefusal}
+use Rattle.devices.specs.Codes.{namedBy, namingOf, namedRefusal}
 use Rattle.shape.proofs.Places.{lift-at}
 use Rattle.shape.proofs.Refused.{well-shaped}
-use Rattle.shape.proofs.Accepts.{write-accepts, rebuild-accepts}
+use Rattle.shape.proofs.Accepts.{write-accepts}
+use Rattle.devices.proofs.Accepts.{rebuild-accepts}
 use Rattle.write.specs.Write.{afterWrite}
 use Rattle.stripe.specs.Calls.{afterRebuild, rebuiltBy}
 use Rattle.demands.specs.Series.{Member, GivesNothing, Without, end, keep, drop}

@@ -10,9 +10,9 @@ use Rattle.column.specs.declared.Lost.{Lost}
 use Rattle.column.specs.Column.{reedSolomon}
 use Rattle.column.specs.Loss.{Spared}
 use Rattle.shape.specs.declared.Geometry.{Geometry}
-use Rattle.shape.specs.declared.Naming.the-variants.{Loss}
+use Rattle.devices.specs.declared.Naming.the-variants.{Loss}
 use Rattle.shape.specs.Layout.{column}
-use Rattle.shape.specs.Codes.{namingOf}
+use Rattle.devices.specs.Codes.{namingOf}
 use Rattle.write.specs.Write.{WriteCall}
 use Rattle.stripe.specs.Calls.{RebuildCall, RebuildNamedCall}
 use Rattle.demands.specs.Layout.{layoutOf}

@@ -10,10 +10,11 @@ use Rattle.column.specs.declared.Lost.{Lost}
 use Rattle.column.specs.Column.{reedSolomon}
 use Rattle.column.specs.Loss.{overwrite}
 use Rattle.shape.specs.declared.Geometry.{Geometry}
-use Rattle.shape.specs.declared.Naming.{Naming}
+use Rattle.devices.specs.declared.Naming.{Naming}
 use Rattle.shape.specs.Layout.{column, lift}
-use Rattle.shape.specs.Refusals.{writeRefusal, rebuildRefusal}
-use Rattle.shape.specs.Codes.{namedRefusal}
+use Rattle.shape.specs.Refusals.{writeRefusal}
+use Rattle.devices.specs.Refusals.{rebuildRefusal}
+use Rattle.devices.specs.Codes.{namedRefusal}
 use Rattle.write.specs.Write.{covers, afterWrite}
 use Rattle.stripe.specs.Calls.{afterRebuild, rebuiltBy}
 use Rattle.demands.specs.Layout.{layoutOf}

@@ -12,8 +12,8 @@ use borrow.Author.Tests.{le-leb}
 use lib.ListN.{length, take, length-append}
 use lib.Seq.{take-all, take-take, length-take-le}
 use Rattle.column.specs.declared.Lost.{Lost}
-use Rattle.shape.specs.declared.Naming.{Naming}
-use Rattle.shape.specs.declared.Naming.the-variants.{Loss, Wrong}
+use Rattle.devices.specs.declared.Naming.{Naming}
+use Rattle.devices.specs.declared.Naming.the-variants.{Loss, Wrong}
 use Rattle.stripe.specs.Stripe.{encoded, rebuilt, verdicts}
 use Rattle.verdict.specs.Summary.{summary}
 use Rattle.base.specs.Refusal.{unlessRefused}
@@ -22,7 +22,7 @@ use Rattle.base.proofs.Choice.{below-or-not}
 use Rattle.base.proofs.Refused.{left-alone}
 use Rattle.job.specs.Fields.{bigEndian, fields}
 use Rattle.job.specs.Header.{mark, commandOf, geometryOf, lossNamed, stripeOf}
-use Rattle.shape.specs.Codes.{misnamed}
+use Rattle.devices.specs.Codes.{misnamed}
 use Rattle.job.specs.Refusals.{jobRefusal}
 use Rattle.job.specs.Answer.{opening, restored, body, answerTo, AnswerCall, inputSize, outputSize, AnswerInputCall}
 use Rattle.job.proofs.Accepted.{accepted}

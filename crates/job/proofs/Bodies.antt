@@ -9,19 +9,20 @@ use native.Mathlib.Decide.{ℕ-discrete}
 use lib.ListN.{length}
 use Rattle.column.specs.declared.Lost.{Lost}
 use Rattle.shape.specs.declared.Geometry.{Geometry}
-use Rattle.shape.specs.declared.Naming.{Naming}
-use Rattle.shape.specs.declared.Naming.the-variants.{Loss, Wrong}
+use Rattle.devices.specs.declared.Naming.{Naming}
+use Rattle.devices.specs.declared.Naming.the-variants.{Loss, Wrong}
 use Rattle.column.specs.Column.{reedSolomon, encodeColumn, rebuildColumn, verdict}
 use Rattle.shape.specs.Layout.{column}
 use Rattle.stripe.specs.Stripe.{encoded, rebuilt, verdicts}
 use Rattle.verdict.specs.Summary.{summary}
-use Rattle.shape.specs.Refusals.{library, unknownLost, twice, shapeRefusals, lossRefusals, encodeRefusal, rebuildRefusal}
+use Rattle.shape.specs.Refusals.{library, shapeRefusals, encodeRefusal}
+use Rattle.devices.specs.Refusals.{unknownLost, twice, lossRefusals, rebuildRefusal}
 use Rattle.stripe.specs.Calls.{afterEncode, afterRebuild, rebuiltBy}
 use Rattle.shape.proofs.Places.{length-lift}
 use Rattle.base.proofs.Table.{length-tabulate}
 use Rattle.base.proofs.Refused.{first-passed, left-done}
 use Rattle.job.specs.Header.{commandOf, geometryOf, lossNamed, stripeOf}
-use Rattle.shape.specs.Codes.{misnamed, namedTwice}
+use Rattle.devices.specs.Codes.{misnamed, namedTwice}
 use Rattle.job.specs.Answer.{restored, report, body}
 use Rattle.job.proofs.Accepted.{Accepted}
 use Rattle.job.proofs.Fielded.{length-fields}

@@ -12,13 +12,13 @@ use Rattle.base.proofs.Choice.{either-comm}
 use Rattle.column.specs.declared.Device.{Device}
 use Rattle.column.specs.declared.Lost.the-variants.{Two}
 use Rattle.shape.specs.declared.Geometry.{Geometry}
-use Rattle.shape.specs.declared.Naming.{Naming}
-use Rattle.shape.specs.declared.Naming.the-variants.{Loss, Wrong}
+use Rattle.devices.specs.declared.Naming.{Naming}
+use Rattle.devices.specs.declared.Naming.the-variants.{Loss, Wrong}
 use Rattle.shape.specs.Layout.{geometry}
-use Rattle.shape.specs.Refusals.{unknown}
-use Rattle.shape.specs.Codes.{namingOf, misnamed, namedTwice}
-use Rattle.shape.proofs.Order.{same-comm, codes-exchanged}
-use Rattle.shape.proofs.Exchanged.{rebuild-exchanged}
+use Rattle.devices.specs.Refusals.{unknown}
+use Rattle.devices.specs.Codes.{namingOf, misnamed, namedTwice}
+use Rattle.devices.proofs.Order.{same-comm, codes-exchanged}
+use Rattle.devices.proofs.Exchanged.{rebuild-exchanged}
 use Rattle.job.specs.Fields.{field}
 use Rattle.job.specs.Header.{commandOf, geometryOf, lossNamed, stripeOf, Exchanged}
 use Rattle.job.specs.Refusals.{jobRefusal}

@@ -9,10 +9,10 @@ use lib.ListN.{length}
 use Rattle.base.specs.Refusal.{Refusal, firstOf}
 use Rattle.base.proofs.Refused.{none-applies}
 use Rattle.shape.specs.declared.Geometry.{Geometry}
-use Rattle.shape.specs.declared.Named.{Named}
-use Rattle.shape.specs.declared.Named.the-variants.{Device, Nothing, Meaningless}
+use Rattle.devices.specs.declared.Named.{Named}
+use Rattle.devices.specs.declared.Named.the-variants.{Device, Nothing, Meaningless}
 use Rattle.shape.specs.Refusals.{library, limitsRefusals, refusal3}
-use Rattle.shape.specs.Codes.{namedBy, lossOf, namedTwice, noDevices}
+use Rattle.devices.specs.Codes.{namedBy, lossOf, namedTwice, noDevices}
 use Rattle.job.specs.Fields.{field}
 use Rattle.job.specs.Header.{commandOf, geometryOf, firstDevice, secondDevice, stripeOf}
 use Rattle.job.specs.Refusals.{refusal4, refusal5, refusal20}

@@ -6,9 +6,9 @@ use mathlib.Core.List.{List, [], _∷_}
 use lib.ListN.{length, getD, take, drop}
 use Rattle.shape.specs.declared.Geometry.{Geometry}
 use Rattle.shape.specs.Layout.{geometry}
-use Rattle.shape.specs.declared.Named.{Named}
-use Rattle.shape.specs.declared.Naming.{Naming}
-use Rattle.shape.specs.Codes.{namedBy, lossOf}
+use Rattle.devices.specs.declared.Named.{Named}
+use Rattle.devices.specs.declared.Naming.{Naming}
+use Rattle.devices.specs.Codes.{namedBy, lossOf}
 use Rattle.job.specs.Fields.{field}
 
 -- "SRJ"

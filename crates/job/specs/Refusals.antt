@@ -7,10 +7,10 @@ use lib.ListN.{length, getD}
 use Rattle.base.specs.Choice.{choose, both, either}
 use Rattle.base.specs.Refusal.{Refusal, firstOf}
 use Rattle.shape.specs.declared.Geometry.{Geometry}
-use Rattle.shape.specs.declared.Named.{Named}
+use Rattle.devices.specs.declared.Named.{Named}
 use Rattle.shape.specs.Layout.{size}
 use Rattle.shape.specs.Refusals.{library, refusal1, refusal2, refusal3}
-use Rattle.shape.specs.Codes.{lossOf, misnamed, namedTwice, noDevices}
+use Rattle.devices.specs.Codes.{lossOf, misnamed, namedTwice, noDevices}
 use Rattle.job.specs.Header.{mark, versionOf, commandOf, geometryOf, firstDevice, secondDevice, stripeOf}
 
 -- a job shorter than 14 bytes

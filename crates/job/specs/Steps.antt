@@ -4,7 +4,7 @@ use mathlib.Core.Path.{_≡_}
 use mathlib.Core.List.{List, [], _∷_}
 use Rattle.base.specs.Refusal.{Refusal}
 use Rattle.shape.specs.declared.Geometry.{Geometry}
-use Rattle.shape.specs.declared.Named.{Named}
+use Rattle.devices.specs.declared.Named.{Named}
 use Rattle.shape.specs.Refusals.{library, refusal1, refusal2, refusal3}
 use Rattle.job.specs.Fields.{field}
 use Rattle.job.specs.Header.{commandOf}

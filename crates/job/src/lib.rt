@@ -5,7 +5,7 @@ use stripe::Checked;
 ghost use mathlib.Core.Path.{_≡_};
 ghost use Prim.Native.Nat.{_+_, _*_, _/_, _%_, _≤_};
 ghost use lib.ListN.{length, set};
-ghost use Rattle.shape.specs.Codes.{namedBy};
+ghost use Rattle.devices.specs.Codes.{namedBy};
 ghost use Rattle.base.specs.Refusal.{firstOf};
 ghost use Rattle.shape.specs.Refusals.{encodeRefusal};
 ghost use Rattle.stripe.specs.Stripe.{verdicts};
@@ -95,13 +95,13 @@ fn call_refusal(g: Geometry, len: usize, command: u8, first: usize, second: usiz
     ensures { λ r. ⌜ r ≡ firstOf (callRefusals g len command (namedBy first) (namedBy second)) ⌝ }
 {
     if command == 2 {
-        return shape::named_refusal(g, len, first, second);
+        return devices::named_refusal(g, len, first, second);
     }
     let refused = shape::encode_refusal(g, len);
     if refused != 0 {
         return refused;
     }
-    if shape::no_devices(first, second) {
+    if devices::no_devices(first, second) {
         0
     } else {
         4

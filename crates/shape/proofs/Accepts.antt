@@ -1,24 +1,15 @@
 -- A call whose numbers are in range is accepted: none of the tests of its order applies. With `Refused` a call is accepted exactly then.
 -- Assumes nothing.
 use mathlib.Core.Path.{_≡_, refl, _∙_}
-use mathlib.Core.Logic.{_≢_}
-use mathlib.Core.Bool.{false}
 use mathlib.Core.List.{List, [], _∷_}
 use Prim.Native.Nat.{ℕ, _-_, _≤_, _<_}
 use native.Mathlib.Omega.{arith}
 use borrow.Author.Tests.{eq-eqb, ne-eqb, le-ltb, lt-leb}
 use lib.ListN.{length}
-use Rattle.base.specs.Refusal.{firstOf}
 use Rattle.base.proofs.Refused.{first-passed}
-use Rattle.column.specs.declared.Device.{Device}
-use Rattle.column.specs.declared.Device.the-variants.{Data, P, Q}
-use Rattle.column.specs.declared.Lost.{Lost}
-use Rattle.column.specs.declared.Lost.the-variants.{One, Two}
-use Rattle.column.specs.Column.{roleOf}
-use Rattle.column.specs.Loss.{Known, KnownLoss}
 use Rattle.shape.specs.declared.Geometry.{Geometry}
 use Rattle.shape.specs.Layout.{size}
-use Rattle.shape.specs.Refusals.{library, shapeRefusals, stretchRefusals, lossRefusals, refusal7, unknown, sameDevice, encodeRefusal, writeRefusal, rebuildRefusal, checkRefusal, WellShaped}
+use Rattle.shape.specs.Refusals.{library, shapeRefusals, stretchRefusals, refusal7, encodeRefusal, writeRefusal, checkRefusal, WellShaped}
 
 pub shape-accepts : (g : Geometry) (s : List ℕ) → WellShaped g s → encodeRefusal g (length s) ≡ 0
 shape-accepts g s shaped =
@@ -34,26 +25,3 @@ module _ (g : Geometry) (len : ℕ) (fits : encodeRefusal g len ≡ 0) where
 
   pub check-accepts : (room : ℕ) → room ≡ g .b → checkRefusal g len room ≡ 0
   check-accepts room e = first-passed (shapeRefusals library g len) (refusal7 g room ∷ []) refl fits ∙ simp (eq-eqb room (g .b) e)
-
-  has : (d : Device) → Known (g .n) d → unknown g d ≡ false
-  has (Data k) h = lt-leb (g .n) k h
-  has P h = refl
-  has Q h = refl
-
-  differ : (d e : Device) → roleOf (g .n) d ≢ roleOf (g .n) e → sameDevice d e ≡ false
-  differ (Data k) (Data j) n = ne-eqb k j n
-  differ (Data k) P n = refl
-  differ (Data k) Q n = refl
-  differ P (Data j) n = refl
-  differ P P n = absurd (n refl)
-  differ P Q n = refl
-  differ Q (Data j) n = refl
-  differ Q P n = refl
-  differ Q Q n = absurd (n refl)
-
-  pub rebuild-accepts : (lost : Lost) → KnownLoss (g .n) lost → rebuildRefusal g len lost ≡ 0
-  rebuild-accepts lost known = first-passed (shapeRefusals library g len) (lossRefusals g lost) refl fits ∙ none lost known
-    where
-      none : (lost : Lost) → KnownLoss (g .n) lost → firstOf (lossRefusals g lost) ≡ 0
-      none (One d) h = simp (has d h)
-      none (Two d e) h = simp (has d (h .0), has e (h .1), differ d e (h .2))

@@ -1,9 +1,6 @@
 pub mod Places
 pub mod Refused
 pub mod Accepts
-pub mod Codes
-pub mod Order
-pub mod Exchanged
 pub mod Columns
 pub mod Stretch
 pub mod Witnesses

@@ -1,28 +1,19 @@
--- What a call that is not refused tells of its numbers: the stripe is well shaped, and the disk, the stretch or the loss is one of it.
+-- What a call that is not refused tells of its numbers: the stripe is well shaped, and the disk and the stretch are of it.
 -- Assumes nothing.
 use mathlib.Core.Path.{_≡_, refl}
-use mathlib.Core.Logic.{_≢_}
-use mathlib.Core.Bool.{false, true≢false}
 use mathlib.Core.List.{List, [], _∷_}
 use Prim.Native.Nat.{ℕ, _-_, _≤_, _<_}
 use native.Mathlib.Nat.{pos-of-ne-zero}
-use native.Mathlib.Omega.{arith}
 use borrow.Author.Tests.{leb-false, eqb-false, eqb-true, ltb-false, not-false}
 use lib.Dec.{eqb, ltb}
 use lib.ListN.{length}
 use Rattle.base.specs.Refusal.{firstOf}
 use Rattle.base.proofs.Choice.{either-false}
 use Rattle.base.proofs.Refused.{none-applies, first-none}
-use Rattle.column.specs.declared.Device.{Device}
-use Rattle.column.specs.declared.Device.the-variants.{Data, P, Q}
-use Rattle.column.specs.declared.Lost.{Lost}
-use Rattle.column.specs.declared.Lost.the-variants.{One, Two}
-use Rattle.column.specs.Column.{roleOf}
-use Rattle.column.specs.Loss.{Known, KnownLoss}
 use Rattle.shape.specs.declared.Geometry.{Geometry}
 use Rattle.shape.specs.declared.Limits.{Limits}
 use Rattle.shape.specs.Layout.{size}
-use Rattle.shape.specs.Refusals.{library, limitsRefusals, shapeRefusals, stretchRefusals, lossRefusals, refusal3, refusal7, unknown, unknownLost, sameDevice, twice, encodeRefusal, writeRefusal, rebuildRefusal, checkRefusal, WellShaped}
+use Rattle.shape.specs.Refusals.{library, limitsRefusals, shapeRefusals, stretchRefusals, refusal3, refusal7, encodeRefusal, writeRefusal, checkRefusal, WellShaped}
 
 -- n and B are within their limits
 pub record Within (limits : Limits) (g : Geometry) : Type 0 where
@@ -55,36 +46,6 @@ well-shaped g s e =
       whole = eqb-true (length s) (size g) (not-false (eqb (length s) (size g)) (none-applies (refusal3 g (length s) ∷ []) refl (parts .1) .0));
     }
 
--- ---- the devices of a loss
-pub known-of : (g : Geometry) (d : Device) → unknown g d ≡ false → Known (g .n) d
-known-of g (Data k) e = leb-false (g .n) k e
-known-of g P e = tt
-known-of g Q e = tt
-
--- two devices that are not the same have two roles
-different-roles : (n : ℕ) (d e : Device) → Known n d → Known n e → sameDevice d e ≡ false → roleOf n d ≢ roleOf n e
-different-roles n (Data k) (Data j) hk hj s e = eqb-false k j s e
-different-roles n (Data k) P hk he s e = omega arith
-different-roles n (Data k) Q hk he s e = omega arith
-different-roles n P (Data j) hd hj s e = omega arith
-different-roles n P P hd he s e = true≢false s
-different-roles n P Q hd he s e = omega arith
-different-roles n Q (Data j) hd hj s e = omega arith
-different-roles n Q P hd he s e = omega arith
-different-roles n Q Q hd he s e = true≢false s
-
-pub loss-known : (g : Geometry) (lost : Lost) → firstOf (lossRefusals g lost) ≡ 0 → KnownLoss (g .n) lost
-loss-known g lost e =
-    let none = none-applies (lossRefusals g lost) refl e in sound lost (none .0) (none .1 .0)
-  where
-    sound : (l : Lost) → unknownLost g l ≡ false → twice l ≡ false → KnownLoss (g .n) l
-    sound (One d) u t = known-of g d u
-    sound (Two d f) u t =
-        let both = either-false (unknown g d) (unknown g f) u in
-        let hd = known-of g d (both .0) in
-        let hf = known-of g f (both .1) in
-        (hd, hf, different-roles (g .n) d f hd hf t)
-
 -- ---- calls that are accepted
 pub write-accepted : (g : Geometry) (len disk offset count : ℕ) → writeRefusal g len disk offset count ≡ 0
     → (encodeRefusal g len ≡ 0) × (disk < g .n) × (offset ≤ g .b) × (count ≤ g .b - offset)
@@ -93,10 +54,6 @@ write-accepted g len disk offset count e =
     let none = none-applies (stretchRefusals g disk offset count) refl (parts .1) in
     let six = either-false (ltb (g .b) offset) (ltb (g .b - offset) count) (none .1 .0) in
     (parts .0, leb-false (g .n) disk (none .0), ltb-false (g .b) offset (six .0), ltb-false (g .b - offset) count (six .1))
-
-pub rebuild-accepted : (g : Geometry) (len : ℕ) (lost : Lost) → rebuildRefusal g len lost ≡ 0 → (encodeRefusal g len ≡ 0) × KnownLoss (g .n) lost
-rebuild-accepted g len lost e =
-    let parts = first-none (shapeRefusals library g len) (lossRefusals g lost) refl e in (parts .0, loss-known g lost (parts .1))
 
 pub check-accepted : (g : Geometry) (len room : ℕ) → checkRefusal g len room ≡ 0 → (encodeRefusal g len ≡ 0) × (room ≡ g .b)
 check-accepted g len room e =

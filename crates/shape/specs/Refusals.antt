@@ -1,16 +1,12 @@
--- The refusals of the stripe's calls: each number with its test, and each call's order. They depend on numbers and lengths alone.
+-- The refusals of the calls that name no loss: each number with its test, and each call's order. They depend on numbers and lengths alone.
 use Prim.Native.Nat.{ℕ, _-_, _≤_, _<_}
 use mathlib.Core.Path.{_≡_}
-use mathlib.Core.Bool.{Bool, true, false, not}
+use mathlib.Core.Bool.{not}
 use mathlib.Core.List.{List, [], _∷_}
 use lib.Dec.{eqb, ltb, leb}
 use lib.ListN.{length}
 use Rattle.base.specs.Choice.{either}
 use Rattle.base.specs.Refusal.{Refusal, firstOf}
-use Rattle.column.specs.declared.Device.{Device}
-use Rattle.column.specs.declared.Device.the-variants.{Data, P, Q}
-use Rattle.column.specs.declared.Lost.{Lost}
-use Rattle.column.specs.declared.Lost.the-variants.{One, Two}
 use Rattle.shape.specs.declared.Geometry.{Geometry}
 use Rattle.shape.specs.declared.Limits.{Limits}
 use Rattle.shape.specs.Layout.{size}
@@ -32,36 +28,8 @@ abbrev pub refusal3 : Geometry → ℕ → Refusal
 refusal3 g len = record { number = 3; applies = not (eqb len (size g)) }
 
 -- a data disk number is n or more
-abbrev pub unknown : Geometry → Device → Bool
-unknown g (Data k) = leb (g .n) k
-unknown g P = false
-unknown g Q = false
-
-abbrev pub unknownLost : Geometry → Lost → Bool
-unknownLost g (One d) = unknown g d
-unknownLost g (Two d e) = either (unknown g d) (unknown g e)
-
-abbrev pub refusal4 : Geometry → Lost → Refusal
-refusal4 g lost = record { number = 4; applies = unknownLost g lost }
-
--- the same device twice
-abbrev pub sameDevice : Device → Device → Bool
-sameDevice (Data k) (Data j) = eqb k j
-sameDevice (Data k) P = false
-sameDevice (Data k) Q = false
-sameDevice P (Data j) = false
-sameDevice P P = true
-sameDevice P Q = false
-sameDevice Q (Data j) = false
-sameDevice Q P = false
-sameDevice Q Q = true
-
-abbrev pub twice : Lost → Bool
-twice (One d) = false
-twice (Two d e) = sameDevice d e
-
-abbrev pub refusal5 : Lost → Refusal
-refusal5 lost = record { number = 5; applies = twice lost }
+abbrev pub refusal4 : Geometry → ℕ → Refusal
+refusal4 g disk = record { number = 4; applies = leb (g .n) disk }
 
 -- offset above B, or new bytes longer than B − offset
 abbrev pub refusal6 : Geometry → ℕ → ℕ → Refusal
@@ -79,10 +47,7 @@ abbrev pub shapeRefusals : Limits → Geometry → ℕ → List Refusal
 shapeRefusals limits g len = refusal1 limits g ∷ refusal2 limits g ∷ refusal3 g len ∷ []
 
 abbrev pub stretchRefusals : Geometry → ℕ → ℕ → ℕ → List Refusal
-stretchRefusals g disk offset count = refusal4 g (One (Data disk)) ∷ refusal6 g offset count ∷ []
-
-abbrev pub lossRefusals : Geometry → Lost → List Refusal
-lossRefusals g lost = refusal4 g lost ∷ refusal5 lost ∷ []
+stretchRefusals g disk offset count = refusal4 g disk ∷ refusal6 g offset count ∷ []
 
 -- ---- the calls' orders
 abbrev pub encodeRefusal : Geometry → ℕ → ℕ
@@ -90,10 +55,7 @@ encodeRefusal g len = firstOf (refusal1 library g ∷ refusal2 library g ∷ ref
 
 abbrev pub writeRefusal : Geometry → ℕ → ℕ → ℕ → ℕ → ℕ
 writeRefusal g len disk offset count =
-    firstOf (refusal1 library g ∷ refusal2 library g ∷ refusal3 g len ∷ refusal4 g (One (Data disk)) ∷ refusal6 g offset count ∷ [])
-
-abbrev pub rebuildRefusal : Geometry → ℕ → Lost → ℕ
-rebuildRefusal g len lost = firstOf (refusal1 library g ∷ refusal2 library g ∷ refusal3 g len ∷ refusal4 g lost ∷ refusal5 lost ∷ [])
+    firstOf (refusal1 library g ∷ refusal2 library g ∷ refusal3 g len ∷ refusal4 g disk ∷ refusal6 g offset count ∷ [])
 
 abbrev pub checkRefusal : Geometry → ℕ → ℕ → ℕ
 checkRefusal g len room = firstOf (refusal1 library g ∷ refusal2 library g ∷ refusal3 g len ∷ refusal7 g room ∷ [])

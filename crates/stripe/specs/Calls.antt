@@ -5,15 +5,16 @@ use mathlib.Core.List.{List, [], _∷_}
 use lib.ListN.{length}
 use Rattle.shape.specs.declared.Geometry.{Geometry}
 use Rattle.column.specs.declared.Lost.{Lost}
-use Rattle.shape.specs.declared.Naming.{Naming}
-use Rattle.shape.specs.declared.Naming.the-variants.{Loss, Wrong}
-use Rattle.shape.specs.Codes.{namingOf, namedRefusal}
+use Rattle.devices.specs.declared.Naming.{Naming}
+use Rattle.devices.specs.declared.Naming.the-variants.{Loss, Wrong}
+use Rattle.devices.specs.Codes.{namingOf, namedRefusal}
 use Rattle.base.specs.Refusal.{unlessRefused, Answer, answered}
 use Rattle.stripe.specs.declared.Checked.{Checked}
 use Rattle.stripe.specs.declared.Checked.the-variants.{Refused, Summary}
 use Rattle.verdict.specs.Summary.{summary}
 use Rattle.stripe.specs.Stripe.{encoded, rebuilt, verdicts}
-use Rattle.shape.specs.Refusals.{encodeRefusal, rebuildRefusal, checkRefusal}
+use Rattle.shape.specs.Refusals.{encodeRefusal, checkRefusal}
+use Rattle.devices.specs.Refusals.{rebuildRefusal}
 
 -- the stripe after a call
 unfoldable pub afterEncode : Geometry → List ℕ → List ℕ

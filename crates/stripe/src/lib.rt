@@ -3,11 +3,11 @@
 // its number and changes nothing. The columns are worked on in chunks; the last may be a part of one.
 use chunk::WIDTH;
 use column::Lost;
+use devices::Naming;
 use gf256::Element;
 use losses::Plan;
 use losses::Rule;
 use shape::Geometry;
-use shape::Naming;
 ghost use mathlib.Core.Path.{_≡_};
 ghost use mathlib.Core.Logic.{_⊎_};
 ghost use Prim.Native.Nat.{_+_, _-_, _≤_, _<_};
@@ -52,7 +52,7 @@ pub fn encode(g: Geometry, stripe: &mut [u8]) -> u8
 pub fn rebuild(g: Geometry, stripe: &mut [u8], lost: Lost) -> u8
     ensures { λ r. ⌜ RebuildCall g lost (now (stripe .entry)) r (now (stripe .exit)) ⌝ }
 {
-    let refused = shape::rebuild_refusal(g, stripe.len(), lost);
+    let refused = devices::rebuild_refusal(g, stripe.len(), lost);
     if refused != 0 {
         return refused;
     }
@@ -64,9 +64,9 @@ pub fn rebuild(g: Geometry, stripe: &mut [u8], lost: Lost) -> u8
 pub fn rebuild_named(g: Geometry, stripe: &mut [u8], first: usize, second: usize) -> u8
     ensures { λ r. ⌜ RebuildNamedCall g first second (now (stripe .entry)) r (now (stripe .exit)) ⌝ }
 {
-    match shape::naming_of(first, second) {
+    match devices::naming_of(first, second) {
         Naming::Loss(lost) => rebuild(g, stripe, lost),
-        Naming::Wrong => shape::named_refusal(g, stripe.len(), first, second),
+        Naming::Wrong => devices::named_refusal(g, stripe.len(), first, second),
     }
 }
 

@@ -7,7 +7,7 @@ use mathlib.Core.List.{[], _∷_}
 use borrow.Author.Tests.{eq-eqb, ne-eqb}
 use Rattle.base.proofs.Refused.{refused-first, refused-then}
 use Rattle.shape.specs.Refusals.{library, shapeRefusals}
-use Rattle.shape.specs.Codes.{namedBy, noDevices}
+use Rattle.devices.specs.Codes.{namedBy, noDevices}
 use Rattle.job.specs.Refusals.{refusal4, refusal5}
 use Rattle.job.proofs.Order.{none-twice}
 use Rattle.job.proofs.call_refusal.Statement.{statement}

@@ -8,7 +8,7 @@ use borrow.Author.Needs.{needs}
 use lib.ListN.{length, take, drop}
 use Rattle.shape.specs.declared.Geometry.{Geometry}
 use Rattle.stripe.specs.Calls.{afterEncode, rebuiltBy}
-use Rattle.shape.specs.Codes.{namingOf}
+use Rattle.devices.specs.Codes.{namingOf}
 use Rattle.shape.specs.Refusals.{encodeRefusal}
 use Rattle.stripe.specs.Stripe.{verdicts}
 use Rattle.job.specs.Header.{geometryOf, stripeOf}

@@ -14,7 +14,8 @@ use Rattle.losses.proofs.Planned.{planned, plan-known}
 use Rattle.shape.specs.Layout.{lift}
 use Rattle.shape.specs.Refusals.{WellShaped}
 use Rattle.shape.proofs.Places.{lift-same}
-use Rattle.shape.proofs.Refused.{well-shaped, rebuild-accepted}
+use Rattle.shape.proofs.Refused.{well-shaped}
+use Rattle.devices.proofs.Refused.{rebuild-accepted}
 use Rattle.stripe.specs.Stripe.{rebuilt}
 use Rattle.stripe.specs.Calls.{afterRebuild}
 use Rattle.stripe.proofs.rebuild.Statement.{statement}

@@ -3,8 +3,8 @@
 use borrow.Author.Needs.{needs}
 use mathlib.Core.Path.{sym, ap, _∙_}
 use lib.ListN.{length}
-use Rattle.shape.specs.declared.Naming.{Naming}
-use Rattle.shape.specs.Codes.{namedRefusal}
+use Rattle.devices.specs.declared.Naming.{Naming}
+use Rattle.devices.specs.Codes.{namedRefusal}
 use Rattle.stripe.specs.Calls.{rebuiltBy}
 use Rattle.stripe.proofs.rebuild_named.Statement.{statement}
 use Rattle.stripe.proofs.rebuild_named.Tie as tie

@@ -8,12 +8,13 @@ use Rattle.base.specs.Choice.{choose, both}
 use Rattle.base.specs.Refusal.{firstOf}
 use Rattle.column.specs.declared.Device.the-variants.{Data, P, Q}
 use Rattle.column.specs.declared.Lost.the-variants.{One, Two}
 use Rattle.shape.specs.declared.Geometry.{Geometry}
-use Rattle.shape.specs.declared.Named.{Named}
-use Rattle.shape.specs.declared.Named.the-variants.{Device, Nothing, Meaningless}
-use Rattle.shape.specs.declared.Naming.{Naming}
-use Rattle.shape.specs.declared.Naming.the-variants.{Loss, Wrong}
-use Rattle.shape.specs.Refusals.{library, refusal1, refusal2, refusal3, unknownLost, twice}
+use Rattle.devices.specs.declared.Named.{Named}
+use Rattle.devices.specs.declared.Named.the-variants.{Device, Nothing, Meaningless}
+use Rattle.devices.specs.declared.Naming.{Naming}
+use Rattle.devices.specs.declared.Naming.the-variants.{Loss, Wrong}
+use Rattle.shape.specs.Refusals.{library, refusal1, refusal2, refusal3}
+use Rattle.devices.specs.Refusals.{unknownLost, twice}
 
 unfoldable pub namedBy : ℕ → Named
 namedBy code =

@@ -9,11 +9,12 @@ use Rattle.column.specs.declared.Lost.the-variants.{Two}
 use Rattle.column.specs.Column.{Column, rebuildColumn, reedSolomon}
 use Rattle.column.proofs.ReedSolomon.{reed-solomon}
 use Rattle.column.proofs.Rebuild.{rebuild-order}
 use Rattle.shape.specs.declared.Geometry.{Geometry}
 use Rattle.shape.specs.Layout.{start, column, lift}
-use Rattle.shape.specs.Refusals.{rebuildRefusal}
+use Rattle.devices.specs.Refusals.{rebuildRefusal}
 use Rattle.shape.proofs.Places.{length-lift, lift-at, by-columns}
-use Rattle.shape.proofs.Refused.{well-shaped, rebuild-accepted}
+use Rattle.shape.proofs.Refused.{well-shaped}
+use Rattle.devices.proofs.Refused.{rebuild-accepted}
 
 module _ (g : Geometry) (d e : Device) (s : List ℕ) where
   abbrev by : Device → Device → ℕ → Column → Column

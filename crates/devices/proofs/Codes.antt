@@ -8,8 +8,8 @@ use borrow.Author.Tests.{ne-eqb}
 use lib.Dec.{eqb, ltb}
 use Rattle.base.specs.Choice.{choose}
 use Rattle.column.specs.declared.Device.the-variants.{Data, P, Q}
-use Rattle.shape.specs.declared.Named.the-variants.{Device, Nothing, Meaningless}
-use Rattle.shape.specs.Codes.{namedBy, isNone}
+use Rattle.devices.specs.declared.Named.the-variants.{Device, Nothing, Meaningless}
+use Rattle.devices.specs.Codes.{namedBy, isNone}
 
 pub is-none : (code : ℕ) → isNone (namedBy code) ≡ eqb code 65535
 unfolding namedBy

@@ -1,8 +1,8 @@
--- `shape::same_device` meets its contract, by the two devices' cases.
+-- `devices::same_device` meets its contract, by the two devices' cases.
 -- Assumes nothing.
 use borrow.Author.Needs.{needs}
-use Rattle.shape.proofs.same_device.Statement.{statement}
-use Rattle.shape.proofs.same_device.Tie as tie
+use Rattle.devices.proofs.same_device.Statement.{statement}
+use Rattle.devices.proofs.same_device.Tie as tie
 
 enum-known-first : tie.Need-enum-known-first
 enum-known-first c = search needs

@@ -1,9 +1,9 @@
--- `shape::loss_refusal` meets its contract, by the cases of the loss.
+-- `devices::loss_refusal` meets its contract, by the cases of the loss.
 -- Assumes nothing.
 use borrow.Author.Needs.{needs}
 use mathlib.Core.Path.{sym, _∙_}
-use Rattle.shape.proofs.loss_refusal.Statement.{statement}
-use Rattle.shape.proofs.loss_refusal.Tie as tie
+use Rattle.devices.proofs.loss_refusal.Statement.{statement}
+use Rattle.devices.proofs.loss_refusal.Tie as tie
 
 enum-known-lost : tie.Need-enum-known-lost
 enum-known-lost c = search needs

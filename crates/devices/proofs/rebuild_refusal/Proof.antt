@@ -1,11 +1,12 @@
--- `shape::rebuild_refusal` meets its contract: 1 to 3, then 4 and 5.
+-- `devices::rebuild_refusal` meets its contract: 1 to 3, then 4 and 5.
 -- Assumes nothing.
 use borrow.Author.Needs.{needs}
 use mathlib.Core.Path.{refl}
 use Rattle.base.proofs.Refused.{refused-first, refused-then}
-use Rattle.shape.specs.Refusals.{library, shapeRefusals, lossRefusals}
-use Rattle.shape.proofs.rebuild_refusal.Statement.{statement}
-use Rattle.shape.proofs.rebuild_refusal.Tie as tie
+use Rattle.shape.specs.Refusals.{library, shapeRefusals}
+use Rattle.devices.specs.Refusals.{lossRefusals}
+use Rattle.devices.proofs.rebuild_refusal.Statement.{statement}
+use Rattle.devices.proofs.rebuild_refusal.Tie as tie
 
 encode-refusal-requires : tie.Need-encode-refusal-requires
 encode-refusal-requires c κs = search needs

@@ -1,9 +1,9 @@
--- `shape::no_devices` meets its contract: a code names none just where it is 65535.
+-- `devices::no_devices` meets its contract: a code names none just where it is 65535.
 -- Assumes nothing.
 use borrow.Author.Tests.{eq-eqb, ne-eqb}
-use Rattle.shape.proofs.Codes.{is-none}
-use Rattle.shape.proofs.no_devices.Statement.{statement}
-use Rattle.shape.proofs.no_devices.Tie as tie
+use Rattle.devices.proofs.Codes.{is-none}
+use Rattle.devices.proofs.no_devices.Statement.{statement}
+use Rattle.devices.proofs.no_devices.Tie as tie
 
 returns : tie.Need-returns
 returns c = simp (is-none, ne-eqb _ _ (c .if1 .taken))

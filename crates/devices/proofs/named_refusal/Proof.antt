@@ -1,4 +1,4 @@
--- `shape::named_refusal` meets its contract, by what the codes name.
+-- `devices::named_refusal` meets its contract, by what the codes name.
 -- Assumes nothing.
 use borrow.Author.Needs.{needs}
 use mathlib.Core.Path.{refl, sym, ap, _∙_}
@@ -6,10 +6,10 @@ use mathlib.Core.Bool.{true, false}
 use mathlib.Core.List.{List, [], _∷_}
 use Rattle.base.specs.Refusal.{Refusal}
 use Rattle.base.proofs.Refused.{refused-first, refused-then}
 use Rattle.shape.specs.Refusals.{library, shapeRefusals}
-use Rattle.shape.specs.Codes.{namedRefusal}
-use Rattle.shape.proofs.named_refusal.Statement.{statement}
-use Rattle.shape.proofs.named_refusal.Tie as tie
+use Rattle.devices.specs.Codes.{namedRefusal}
+use Rattle.devices.proofs.named_refusal.Statement.{statement}
+use Rattle.devices.proofs.named_refusal.Tie as tie
 
 -- what is left of the order where codes name no loss
 abbrev unnamed : List Refusal

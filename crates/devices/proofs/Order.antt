@@ -14,14 +14,15 @@ use Rattle.base.proofs.Choice.{either-comm}
 use Rattle.column.specs.declared.Device as Column
 use Rattle.column.specs.declared.Device.the-variants.{Data, P, Q}
 use Rattle.column.specs.declared.Lost.the-variants.{Two}
 use Rattle.shape.specs.declared.Geometry.{Geometry}
-use Rattle.shape.specs.declared.Named.{Named}
-use Rattle.shape.specs.declared.Named.the-variants.{Device, Nothing, Meaningless}
-use Rattle.shape.specs.declared.Naming.{Naming}
-use Rattle.shape.specs.declared.Naming.the-variants.{Loss, Wrong}
-use Rattle.shape.specs.Refusals.{library, refusal1, refusal2, refusal3, unknown, sameDevice, rebuildRefusal}
-use Rattle.shape.specs.Codes.{namedBy, lossOf, namingOf, isNone, namedRefusal}
-use Rattle.shape.proofs.Codes.{is-none}
+use Rattle.devices.specs.declared.Named.{Named}
+use Rattle.devices.specs.declared.Named.the-variants.{Device, Nothing, Meaningless}
+use Rattle.devices.specs.declared.Naming.{Naming}
+use Rattle.devices.specs.declared.Naming.the-variants.{Loss, Wrong}
+use Rattle.shape.specs.Refusals.{library, refusal1, refusal2, refusal3}
+use Rattle.devices.specs.Refusals.{unknown, sameDevice, rebuildRefusal}
+use Rattle.devices.specs.Codes.{namedBy, lossOf, namingOf, isNone, namedRefusal}
+use Rattle.devices.proofs.Codes.{is-none}
 
 eqb-comm : (a b : ℕ) → eqb a b ≡ eqb b a
 eqb-comm a b = go (ℕ-discrete a b)

@@ -1,10 +1,10 @@
--- `shape::naming_of` meets its contract: what its callees answer, put together.
+-- `devices::naming_of` meets its contract: what its callees answer, put together.
 -- Assumes nothing.
 use borrow.Author.Needs.{needs}
 use mathlib.Core.Path.{ap₂, _∙_}
-use Rattle.shape.specs.Codes.{lossOf}
-use Rattle.shape.proofs.naming_of.Statement.{statement}
-use Rattle.shape.proofs.naming_of.Tie as tie
+use Rattle.devices.specs.Codes.{lossOf}
+use Rattle.devices.proofs.naming_of.Statement.{statement}
+use Rattle.devices.proofs.naming_of.Tie as tie
 
 decode-requires : tie.Need-decode-requires
 decode-requires c κs = search needs

@@ -1,8 +1,8 @@
--- `stripe::loss_of` meets its contract, by the two names' cases.
+-- `devices::loss_of` meets its contract, by the two names' cases.
 -- Assumes nothing.
 use borrow.Author.Needs.{needs}
-use Rattle.shape.proofs.loss_of.Statement.{statement}
-use Rattle.shape.proofs.loss_of.Tie as tie
+use Rattle.devices.proofs.loss_of.Statement.{statement}
+use Rattle.devices.proofs.loss_of.Tie as tie
 
 enum-known-first : tie.Need-enum-known-first
 enum-known-first c = search needs

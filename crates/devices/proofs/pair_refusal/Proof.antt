@@ -1,12 +1,12 @@
--- `shape::pair_refusal` meets its contract: each `return` rewrites by the answers that led there.
+-- `devices::pair_refusal` meets its contract: each `return` rewrites by the answers that led there.
 -- Assumes nothing.
 use borrow.Author.Needs.{needs}
 use mathlib.Core.Path.{sym, _∙_}
 use mathlib.Core.Path.{_≡_}
 use mathlib.Core.Bool.{true, false}
-use Rattle.shape.specs.Refusals.{unknown, sameDevice}
-use Rattle.shape.proofs.pair_refusal.Statement.{statement}
-use Rattle.shape.proofs.pair_refusal.Tie as tie
+use Rattle.devices.specs.Refusals.{unknown, sameDevice}
+use Rattle.devices.proofs.pair_refusal.Statement.{statement}
+use Rattle.devices.proofs.pair_refusal.Tie as tie
 
 lacks-requires : tie.Need-lacks-requires
 lacks-requires c κs = search needs

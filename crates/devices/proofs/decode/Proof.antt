@@ -1,9 +1,9 @@
--- `stripe::decode` meets its contract: each `return` rewrites by the tests that led there.
+-- `devices::decode` meets its contract: each `return` rewrites by the tests that led there.
 -- Assumes nothing.
 use borrow.Author.Tests.{eq-eqb, ne-eqb, lt-ltb, le-ltb}
-use Rattle.shape.specs.Codes.{namedBy}
-use Rattle.shape.proofs.decode.Statement.{statement}
-use Rattle.shape.proofs.decode.Tie as tie
+use Rattle.devices.specs.Codes.{namedBy}
+use Rattle.devices.proofs.decode.Statement.{statement}
+use Rattle.devices.proofs.decode.Tie as tie
 
 returns : tie.Need-returns
 unfolding namedBy

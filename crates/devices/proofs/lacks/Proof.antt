@@ -1,8 +1,8 @@
--- `stripe::Geometry::lacks` meets its contract, by the device's cases.
+-- `devices::lacks` meets its contract, by the device's cases.
 -- Assumes nothing.
 use borrow.Author.Needs.{needs}
-use Rattle.shape.proofs.Geometry.lacks.Statement.{statement}
-use Rattle.shape.proofs.Geometry.lacks.Tie as tie
+use Rattle.devices.proofs.lacks.Statement.{statement}
+use Rattle.devices.proofs.lacks.Tie as tie
 
 enum-known-device : tie.Need-enum-known-device
 enum-known-device c = search needs

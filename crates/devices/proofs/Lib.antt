@@ -1,0 +1,5 @@
+pub mod Refused
+pub mod Accepts
+pub mod Codes
+pub mod Order
+pub mod Exchanged
