@@ -7,7 +7,7 @@ use native.Mathlib.Omega.{arith}
 use Rattle.bitmatrix.specs.Judge.{Code, orElse, finding}
 use Rattle.bitmatrix.specs.Cone.{Cone, Reports}
 use Rattle.bitmatrix.specs.declared.Finding.the-variants.{Fit}
-use Rattle.bitmatrix.proofs.Fold.{fold-none}
+use Rattle.matrix.proofs.Fold.{fold-none}
 use Rattle.bitmatrix.proofs.Reports.{passes, pair-passes, reported}
 
 fit→cone : (code : Code) (count : ℕ) → finding code count ≡ Fit → Cone code count

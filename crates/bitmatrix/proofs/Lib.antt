@@ -1,13 +1,7 @@
-pub mod Fold
-pub mod Bits
-pub mod Product
-pub mod Linear
 pub mod Weight
 pub mod Findings
-pub mod Invertible
 pub mod Reports
 pub mod Fit
-pub mod Onto
 pub mod Rebuild
 pub mod System
 pub mod Places

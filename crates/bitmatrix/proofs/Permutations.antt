@@ -8,14 +8,14 @@ use native.Mathlib.Omega.{arith}
 use borrow.Author.Tests.{eqb-true}
 use lib.Bits.{bitXor, xor-self}
 use lib.Dec.{eqb}
-use Rattle.bitmatrix.specs.Fold.{fold}
-use Rattle.bitmatrix.specs.Matrix.{Matrix, bit, entry, component, apply, add}
+use Rattle.matrix.specs.Fold.{fold}
+use Rattle.matrix.specs.Matrix.{Matrix, bit, entry, component, apply, add}
 use Rattle.bitmatrix.specs.Judge.{Code, X, finding}
 use Rattle.bitmatrix.specs.Cone.{Permutation}
 use Rattle.bitmatrix.specs.declared.Finding.the-variants.{Fit}
-use Rattle.bitmatrix.proofs.Fold.{fold-ext, none-fold}
-use Rattle.bitmatrix.proofs.Invertible.{and-true}
-use Rattle.bitmatrix.proofs.Linear.{apply-add}
+use Rattle.matrix.proofs.Fold.{fold-ext, none-fold}
+use Rattle.matrix.proofs.Invertible.{and-true}
+use Rattle.matrix.proofs.Linear.{apply-add}
 use Rattle.bitmatrix.proofs.Fit.{fit-cone}
 
 all-ones : (c : ℕ) → c < 8 → bit 255 c ≡ 1

@@ -4,12 +4,12 @@ use mathlib.Core.Path.{_≡_, ap, ap₂}
 use mathlib.Core.Bool.{_&&_}
 use Prim.Native.Nat.{ℕ, _+_, _<_}
 use lib.Dec.{ltb}
-use Rattle.bitmatrix.specs.Matrix.{Matrix, add, singular}
-use Rattle.bitmatrix.specs.Judge.{Code, X, orElse, when, finding, weight, ones, minimal, refusal, refusedOr, judged}
+use Rattle.matrix.specs.Matrix.{Matrix, add, singular, weight}
+use Rattle.bitmatrix.specs.Judge.{Code, X, orElse, when, finding, ones, minimal, refusal, refusedOr, judged}
 use Rattle.bitmatrix.specs.declared.Finding.{Finding}
 use Rattle.bitmatrix.specs.declared.Finding.the-variants.{Fit, Singular, Pair}
 use Rattle.bitmatrix.specs.declared.Judgement.the-variants.{Judged}
-use Rattle.bitmatrix.proofs.Fold.{fold-ext}
+use Rattle.matrix.proofs.Fold.{fold-ext}
 
 module _ (code code′ : Code) (count : ℕ) (agree : (i : ℕ) → i < count → X code i ≡ X code′ i) where
   finding-places : finding code count ≡ finding code′ count

@@ -1,57 +1,21 @@
 -- Two devices of a fit code are determined by what they add to the two equations. The difference of two solutions is a vector that a matrix,
 -- or a sum of two, sends to zero, so there is at most one; and a matrix that sends only zero to zero reaches every vector, so there is one.
 -- Assumes nothing.
-use mathlib.Core.Path.{_≡_, refl, sym, ap, ap₂, _∙_}
+use mathlib.Core.Path.{_≡_, refl, sym, ap, _∙_}
 use mathlib.Core.Logic.{_≢_}
 use Prim.Native.Nat.{ℕ, _%_, _+_, _<_}
 use native.Mathlib.Omega.{arith}
 use lib.Bits.{bitXor, xor-comm, xor-lt, xor-self, xor-zero-r}
-use Rattle.bitmatrix.specs.Matrix.{Matrix, bit, apply, add}
+use Rattle.matrix.specs.Matrix.{bit, apply, add, Invertible}
 use Rattle.bitmatrix.specs.Judge.{Code, X, finding}
-use Rattle.bitmatrix.specs.Cone.{Invertible, Cone}
+use Rattle.bitmatrix.specs.Cone.{Cone}
 use Rattle.bitmatrix.specs.Rebuild.{Device, Word, P, Q, Known}
 use Rattle.bitmatrix.specs.declared.Finding.the-variants.{Fit}
-use Rattle.bitmatrix.proofs.Bits.{bits-ext, bit-xor}
-use Rattle.bitmatrix.proofs.Linear.{apply-lt, apply-add, apply-sum}
+use Rattle.matrix.proofs.Bits.{bits-ext, bit-xor, xor-swap}
+use Rattle.matrix.proofs.Linear.{apply-lt, apply-add, apply-sum}
+use Rattle.matrix.proofs.Onto.{Takes}
+use Rattle.matrix.proofs.Determined.{one-word, two-words, reaches}
 use Rattle.bitmatrix.proofs.Fit.{fit-cone}
-use Rattle.bitmatrix.proofs.Onto.{Takes, onto}
-
--- p + q = r + s gives p + r = q + s
-parity-swap : (p q r s : ℕ) → (p + q) % 2 ≡ (r + s) % 2 → (p + r) % 2 ≡ (q + s) % 2
-parity-swap p q r s e = omega arith
-
-xor-swap : (p q r s : ℕ) → bitXor p q ≡ bitXor r s → bitXor p r ≡ bitXor q s
-xor-swap p q r s e =
-    bits-ext _ _
-    (λ c.
-    bit-xor p r c
-    ∙ parity-swap (bit p c) (bit q c) (bit r c) (bit s c) (sym (bit-xor p q c) ∙ ap (λ (x : ℕ). bit x c) e ∙ bit-xor r s c)
-    ∙ sym (bit-xor q s c))
-
-pub xor-zero : (a b : ℕ) → bitXor a b ≡ 0 → a ≡ b
-xor-zero a b e = sym (xor-zero-r a) ∙ xor-swap a b 0 0 e ∙ xor-zero-r b
-
--- M a determines a
-one-word : (m : Matrix) → Invertible m → (a a′ : ℕ) → a < 256 → a′ < 256 → apply m a ≡ apply m a′ → a ≡ a′
-one-word m h a a′ la la′ e =
-    xor-zero a a′
-    (h (bitXor a a′) (xor-lt 8 a a′ la la′)
-    (apply-sum m a a′ ∙ ap (λ (x : ℕ). bitXor x (apply m a′)) e ∙ xor-self (apply m a′)))
-
--- a + b and M a + N b determine a and b
-two-words : (m n : Matrix) → Invertible (add m n) → (a b a′ b′ : ℕ) → a < 256 → b < 256 → a′ < 256 → b′ < 256
-    → bitXor a b ≡ bitXor a′ b′ → bitXor (apply m a) (apply n b) ≡ bitXor (apply m a′) (apply n b′) → (a ≡ a′) × (b ≡ b′)
-two-words m n h a b a′ b′ la lb la′ lb′ p q = (xor-zero a a′ zero, xor-zero b b′ (sym same ∙ zero))
-  where
-    same : bitXor a a′ ≡ bitXor b b′
-    same = xor-swap a b a′ b′ p
-
-    zero : bitXor a a′ ≡ 0
-    zero =
-        h (bitXor a a′) (xor-lt 8 a a′ la la′)
-        (apply-add m n (bitXor a a′)
-        ∙ ap₂ bitXor (apply-sum m a a′ ∙ xor-swap (apply m a) (apply n b) (apply m a′) (apply n b′) q) (ap (apply n) same ∙ apply-sum n b b′)
-        ∙ xor-self (bitXor (apply n b) (apply n b′)))
 
 pub fit-one-word : (code : Code) (count : ℕ) → finding code count ≡ Fit → (i : ℕ) → i < count
     → (a a′ : ℕ) → a < 256 → a′ < 256 → apply (X code i) a ≡ apply (X code i) a′ → a ≡ a′
@@ -64,9 +28,6 @@ pub fit-two-words : (code : Code) (count : ℕ) → finding code count ≡ Fit
 fit-two-words code count e i j li lj n = two-words (X code i) (X code j) (fit-cone code count .0 e .sums i j li lj n)
 
 -- ---- and there are such words
-reaches : (m : Matrix) → Invertible m → (q : ℕ) → q < 256 → Takes (apply m) 256 q
-reaches m h = onto 256 (apply m) record { below = λ v l. apply-lt m v; apart = λ a b la lb. one-word m h a b la lb }
-
 -- u + v = q + w gives u + (w + v) = q
 parity-solve : (u v q w : ℕ) → q < 2 → (u + v) % 2 ≡ (q + w) % 2 → (u + (w + v) % 2) % 2 ≡ q
 parity-solve u v q w l e = omega arith

@@ -9,16 +9,16 @@ use native.Mathlib.Omega.{arith}
 use borrow.Author.Tests.{ltb-true, lt-ltb, not-false}
 use lib.Bits.{xor-comm}
 use lib.Dec.{ltb}
-use Rattle.bitmatrix.specs.Fold.{fold}
-use Rattle.bitmatrix.specs.Matrix.{row, add, singular}
+use Rattle.matrix.specs.Fold.{fold}
+use Rattle.matrix.specs.Matrix.{row, add, singular, Invertible}
 use Rattle.bitmatrix.specs.Judge.{Code, X, orElse, first, when, isFit, singularAt, pairAt, firstPair, finding}
-use Rattle.bitmatrix.specs.Cone.{Invertible, Cone, FirstSingular, FirstPair, Reports}
+use Rattle.bitmatrix.specs.Cone.{Cone, FirstSingular, FirstPair, Reports}
 use Rattle.bitmatrix.specs.declared.Finding.{Finding}
 use Rattle.bitmatrix.specs.declared.Finding.the-variants.{Fit, Singular, Pair}
 use Rattle.base.proofs.Table.{tabulate-same}
-use Rattle.bitmatrix.proofs.Fold.{none-fold}
+use Rattle.matrix.proofs.Fold.{none-fold}
 use Rattle.bitmatrix.proofs.Findings.{is-fit, unfit-hides, or-fit}
-use Rattle.bitmatrix.proofs.Invertible.{only-zero, zero-only, and-true}
+use Rattle.matrix.proofs.Invertible.{only-zero, zero-only, and-true}
 
 -- ---- one test
 

@@ -3,34 +3,21 @@
 -- Assumes nothing.
 use mathlib.Core.Path.{_≡_, refl, sym, ap, ap₂, _∙_}
 use mathlib.Core.Logic.{_≢_}
-use Prim.Native.Nat.{ℕ, zero, suc, _+_, _%_, _<_}
+use Prim.Native.Nat.{ℕ, zero, suc, _<_}
 use native.Mathlib.Decide.{ℕ-discrete, map-dec}
 use native.Mathlib.Omega.{arith}
 use lib.Bits.{bitXor, xor-comm, xor-lt, xor-self, xor-zero-r}
-use Rattle.bitmatrix.specs.Fold.{fold}
-use Rattle.bitmatrix.specs.Matrix.{bit, apply}
+use Rattle.matrix.specs.Fold.{fold}
+use Rattle.matrix.specs.Matrix.{apply}
 use Rattle.bitmatrix.specs.Judge.{Code, X, finding}
 use Rattle.bitmatrix.specs.Rebuild.{Device, Word, P, Q, Known, Held, Bytes, xors, Meets, Survive, Rebuilt, Rebuilds}
 use Rattle.bitmatrix.specs.declared.Finding.the-variants.{Fit}
-use Rattle.bitmatrix.proofs.Fold.{fold-ext}
-use Rattle.bitmatrix.proofs.Bits.{bits-ext, bit-xor}
-use Rattle.bitmatrix.proofs.Linear.{apply-lt, apply-sum}
-use Rattle.bitmatrix.proofs.Rebuild.{xor-zero, inFirst, inSecond, Sums, Solved, pair-solved}
+use Rattle.matrix.proofs.Fold.{fold-ext}
+use Rattle.matrix.proofs.Bits.{xor-zero, xor-assoc}
+use Rattle.matrix.proofs.Linear.{apply-lt, apply-sum}
+use Rattle.bitmatrix.proofs.Rebuild.{inFirst, inSecond, Sums, Solved, pair-solved}
 
 -- ---- sums
-parity-assoc : (a b c : ℕ) → ((a + b) % 2 + c) % 2 ≡ (a + (b + c) % 2) % 2
-parity-assoc a b c = omega arith
-
-xor-assoc : (a b c : ℕ) → bitXor (bitXor a b) c ≡ bitXor a (bitXor b c)
-xor-assoc a b c =
-    bits-ext _ _
-    (λ i.
-    bit-xor (bitXor a b) c i
-    ∙ ap (λ (x : ℕ). (x + bit c i) % 2) (bit-xor a b i)
-    ∙ parity-assoc (bit a i) (bit b i) (bit c i)
-    ∙ ap (λ (x : ℕ). (bit a i + x) % 2) (sym (bit-xor b c i))
-    ∙ sym (bit-xor a (bitXor b c) i))
-
 -- g is f with 00 at i
 one-out : (n : ℕ) (f g : ℕ → ℕ) (i : ℕ) → i < n → g i ≡ 0 → ((k : ℕ) → k ≢ i → g k ≡ f k) → xors n f ≡ bitXor (f i) (xors n g)
 unfolding fold

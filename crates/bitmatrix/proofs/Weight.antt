@@ -1,14 +1,11 @@
--- A matrix has at most eight ones in each row, so no sum of them overflows.
+-- A matrix has at most 64 ones, so no sum of them overflows.
 -- Assumes nothing.
 use Prim.Native.Nat.{ℕ, _*_, _≤_}
-use native.Mathlib.Omega.{arith}
-use Rattle.bitmatrix.specs.Fold.{sum}
-use Rattle.bitmatrix.specs.Matrix.{Matrix, entry}
-use Rattle.bitmatrix.specs.Judge.{Code, weight, X}
-use Rattle.bitmatrix.proofs.Fold.{sum-le}
-
-pub rows-le : (m : Matrix) (n : ℕ) → sum n (λ r. sum 8 (λ c. entry m r c)) ≤ n * 8
-rows-le m n = sum-le 8 n _ (λ r. sum-le 1 8 (λ c. entry m r c) (λ c. omega arith))
+use Rattle.matrix.specs.Fold.{sum}
+use Rattle.matrix.specs.Matrix.{weight}
+use Rattle.bitmatrix.specs.Judge.{Code, X}
+use Rattle.matrix.proofs.Fold.{sum-le}
+use Rattle.matrix.proofs.Weight.{rows-le}
 
 pub matrices-le : (code : Code) (n : ℕ) → sum n (λ i. weight (X code i)) ≤ n * 64
 unfolding weight

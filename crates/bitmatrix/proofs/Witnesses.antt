@@ -8,15 +8,15 @@ use Prim.Native.Nat.{ℕ, _<_}
 use native.Mathlib.Omega.{arith}
 use borrow.Author.Tests.{eqb-true}
 use lib.Dec.{eqb}
-use Rattle.bitmatrix.specs.Fold.{fold, sum}
-use Rattle.bitmatrix.specs.Matrix.{Matrix, entry, component, apply, invertible}
+use Rattle.matrix.specs.Fold.{fold, sum}
+use Rattle.matrix.specs.Matrix.{Matrix, entry, component, apply, invertible}
 use Rattle.bitmatrix.specs.Judge.{finding}
 use Rattle.bitmatrix.specs.Cone.{Cone, Permutation, FirstSingular, FirstPair, Reports}
 use Rattle.bitmatrix.specs.Rebuild.{Device, Word, P, Q, Known, Held, Bytes, Rebuilt}
 use Rattle.bitmatrix.specs.declared.Finding.the-variants.{Fit, Singular, Pair}
 use Rattle.base.specs.Table.{tabulate}
-use Rattle.bitmatrix.proofs.Fold.{none-fold}
-use Rattle.bitmatrix.proofs.Invertible.{and-true}
+use Rattle.matrix.proofs.Fold.{none-fold}
+use Rattle.matrix.proofs.Invertible.{and-true}
 use Rattle.bitmatrix.proofs.Reports.{reported}
 use Rattle.bitmatrix.proofs.Fit.{fit-cone}
 use Rattle.bitmatrix.proofs.System.{fit-rebuilds}

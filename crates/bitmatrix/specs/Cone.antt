@@ -4,14 +4,10 @@ use mathlib.Core.Path.{_≡_}
 use mathlib.Core.Logic.{_⊎_}
 use mathlib.Core.List.{List, [], _∷_}
 use Prim.Native.Nat.{ℕ, _<_}
-use Rattle.bitmatrix.specs.Fold.{sum}
-use Rattle.bitmatrix.specs.Matrix.{Matrix, entry, apply, add}
+use Rattle.matrix.specs.Fold.{sum}
+use Rattle.matrix.specs.Matrix.{Matrix, entry, add, Invertible}
 use Rattle.bitmatrix.specs.Judge.{Code, X, placesOf}
 use Rattle.bitmatrix.specs.declared.Finding.{Finding}
-
--- only the zero vector maps to zero
-abbrev pub Invertible : Matrix → Type 0
-Invertible m = (v : ℕ) → v < 256 → apply m v ≡ 0 → v ≡ 0
 
 -- definition 3.1.1, over the places below count: every matrix is invertible, and so is the sum of every two at different places
 pub record Cone (code : Code) (count : ℕ) : Type 0 where

@@ -9,8 +9,8 @@ use lib.Dec.{eqb, ltb}
 use lib.ListN.{getD}
 use Rattle.base.specs.Choice.{choose}
 use Rattle.base.specs.Refusal.{Refusal, firstOf, Answer, answered}
-use Rattle.bitmatrix.specs.Fold.{fold, sum}
-use Rattle.bitmatrix.specs.Matrix.{Matrix, entry, add, singular}
+use Rattle.matrix.specs.Fold.{fold, sum}
+use Rattle.matrix.specs.Matrix.{Matrix, add, singular, weight}
 use Rattle.bitmatrix.specs.declared.Finding.{Finding}
 use Rattle.bitmatrix.specs.declared.Finding.the-variants.{Fit, Singular, Pair}
 use Rattle.bitmatrix.specs.declared.Judgement.{Judgement}
@@ -56,11 +56,7 @@ finding code count = orElse (first count (λ i. singularAt code i)) (firstPair c
 
 -- ---- the ones
 
--- the entries of a matrix that are one
-unfoldable pub weight : Matrix → ℕ
-weight m = sum 8 (λ r. sum 8 (λ c. entry m r c))
-
--- those of the matrices that count
+-- the entries that are one, of the matrices that count
 unfoldable pub ones : Code → ℕ → ℕ
 ones code count = sum count (λ i. weight (X code i))
 

@@ -1,5 +1,3 @@
-pub mod Fold
-pub mod Matrix
 pub mod Judge
 pub mod Cone
 pub mod Rebuild

@@ -5,8 +5,8 @@ use mathlib.Core.Path.{_≡_}
 use mathlib.Core.Logic.{_≢_}
 use Prim.Native.Nat.{ℕ, _<_}
 use lib.Bits.{bitXor}
-use Rattle.bitmatrix.specs.Fold.{fold}
-use Rattle.bitmatrix.specs.Matrix.{apply}
+use Rattle.matrix.specs.Fold.{fold}
+use Rattle.matrix.specs.Matrix.{apply}
 use Rattle.bitmatrix.specs.Judge.{Code, X}
 
 pub data Device : Type 0 where

@@ -1,10 +1,7 @@
 // The judge of bit-matrix codes for RAID-6 at word size 8: whether any two lost words of a code can be rebuilt (000, definition 3.1.1), and
-// how dense its matrices are. A matrix is eight row bytes; column c of a row is its bit of weight 2^c.
+// how dense its matrices are.
 ghost use mathlib.Core.Path.{_≡_};
 ghost use Prim.Native.Nat.{_≤_, _<_};
-ghost use lib.Dec.{eqb};
-ghost use Rattle.bitmatrix.specs.Fold.{sum};
-ghost use Rattle.bitmatrix.specs.Matrix.{bit, apply, add, singular};
 ghost use Rattle.bitmatrix.specs.Judge.{
   first,
   isFit,
@@ -12,7 +9,6 @@ ghost use Rattle.bitmatrix.specs.Judge.{
   pairAt,
   firstPair,
   finding,
-  weight,
   ones,
   Judges,
 };
@@ -34,47 +30,6 @@ pub enum Judgement {
     },
 }
 
-fn ones_of_byte(x: u8) -> usize
-    ensures { λ r. ⌜ r ≡ sum 8 (λ c. bit x c) ⌝ }
-{
-    u8::count_ones(x) as usize
-}
-
-// Each bit of the product is the parity of the ones that a row and v share.
-fn maps_to_zero(m: [u8; 8], v: u8) -> bool
-    ensures { λ r. ⌜ r ≡ eqb (apply m v) 0 ⌝ }
-{
-    for r in 0..8 {
-        let row = m[r];
-        if ones_of_byte(row & v) % 2 != 0 {
-            return false;
-        }
-    }
-    true
-}
-
-// All 255 vectors are tried: few enough, and no elimination has to be trusted.
-fn is_singular(m: [u8; 8]) -> bool
-    ensures { λ r. ⌜ r ≡ singular m ⌝ }
-{
-    for v in 1..256usize {
-        if maps_to_zero(m, v as u8) {
-            return true;
-        }
-    }
-    false
-}
-
-fn sum_of(a: [u8; 8], b: [u8; 8]) -> [u8; 8]
-    ensures { λ r. ⌜ r ≡ add a b ⌝ }
-{
-    let mut s = a;
-    for r in 0..8 {
-        s[r] = s[r] ^ b[r];
-    }
-    s
-}
-
 fn is_fit(f: Finding) -> bool
     ensures { λ r. ⌜ r ≡ isFit f ⌝ }
 {
@@ -91,7 +46,7 @@ fn first_singular(code: [[u8; 8]; 8], count: usize) -> Finding
 {
     for i in 0..count {
         let m = code[i];
-        if is_singular(m) {
+        if matrix::is_singular(m) {
             return Finding::Singular(i);
         }
     }
@@ -106,7 +61,7 @@ fn first_partner(code: [[u8; 8]; 8], count: usize, i: usize) -> Finding
     let a = code[i];
     for j in i + 1..count {
         let b = code[j];
-        if is_singular(sum_of(a, b)) {
+        if matrix::is_singular(matrix::sum_of(a, b)) {
             return Finding::Pair(i, j);
         }
     }
@@ -137,17 +92,6 @@ fn find(code: [[u8; 8]; 8], count: usize) -> Finding
     first_pair(code, count)
 }
 
-fn weight_of(m: [u8; 8]) -> usize
-    ensures { λ r. ⌜ r ≡ weight m ⌝ }
-{
-    let mut n = 0;
-    for r in 0..8 {
-        let row = m[r];
-        n += ones_of_byte(row);
-    }
-    n
-}
-
 fn ones_of(code: [[u8; 8]; 8], count: usize) -> usize
     requires { ⌜ count ≤ 8 ⌝ }
     ensures { λ r. ⌜ r ≡ ones code count ⌝ }
@@ -155,7 +99,7 @@ fn ones_of(code: [[u8; 8]; 8], count: usize) -> usize
     let mut n = 0;
     for i in 0..count {
         let m = code[i];
-        n += weight_of(m);
+        n += matrix::weight_of(m);
     }
     n
 }

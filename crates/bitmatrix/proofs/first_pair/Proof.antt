@@ -5,10 +5,10 @@ use Prim.Native.Nat.{_-_, _≤_}
 use native.Mathlib.Omega.{arith}
 use borrow.Author.Needs.{needs}
 use borrow.Author.Tests.{not-true, not-false}
-use Rattle.bitmatrix.specs.Fold.{fold}
+use Rattle.matrix.specs.Fold.{fold}
 use Rattle.bitmatrix.specs.Judge.{orElse, first, pairAt}
 use Rattle.bitmatrix.specs.declared.Finding.the-variants.{Fit}
-use Rattle.bitmatrix.proofs.Fold.{fold-more, fold-met}
+use Rattle.matrix.proofs.Fold.{fold-more, fold-met}
 use Rattle.bitmatrix.proofs.Findings.{is-fit, unfit-hides}
 use Rattle.bitmatrix.proofs.first_pair.Statement.{statement}
 use Rattle.bitmatrix.proofs.first_pair.Tie as tie

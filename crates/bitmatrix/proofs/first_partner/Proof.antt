@@ -6,10 +6,10 @@ use Prim.Native.Nat.{_-_, _≤_, _<_}
 use native.Mathlib.Omega.{arith}
 use borrow.Author.Needs.{needs}
 use borrow.Author.Tests.{lt-ltb}
-use Rattle.bitmatrix.specs.Matrix.{singular}
+use Rattle.matrix.specs.Matrix.{singular}
 use Rattle.bitmatrix.specs.Judge.{orElse, first, when, pairAt}
 use Rattle.bitmatrix.specs.declared.Finding.the-variants.{Fit, Pair}
-use Rattle.bitmatrix.proofs.Fold.{fold-more, fold-met, fold-none}
+use Rattle.matrix.proofs.Fold.{fold-more, fold-met, fold-none}
 use Rattle.bitmatrix.proofs.Reports.{pair-passes}
 use Rattle.bitmatrix.proofs.first_partner.Statement.{statement}
 use Rattle.bitmatrix.proofs.first_partner.Tie as tie

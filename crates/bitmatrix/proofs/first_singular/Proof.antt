@@ -5,10 +5,10 @@ use mathlib.Core.Bool.{Bool}
 use Prim.Native.Nat.{_-_, _≤_}
 use native.Mathlib.Omega.{arith}
 use borrow.Author.Needs.{needs}
-use Rattle.bitmatrix.specs.Fold.{fold}
+use Rattle.matrix.specs.Fold.{fold}
 use Rattle.bitmatrix.specs.Judge.{orElse, first, when, singularAt}
 use Rattle.bitmatrix.specs.declared.Finding.the-variants.{Fit, Singular}
-use Rattle.bitmatrix.proofs.Fold.{fold-more, fold-met}
+use Rattle.matrix.proofs.Fold.{fold-more, fold-met}
 use Rattle.bitmatrix.proofs.first_singular.Statement.{statement}
 use Rattle.bitmatrix.proofs.first_singular.Tie as tie
 

@@ -4,9 +4,10 @@ use Prim.Native.Nat.{_-_, _+_, _≤_}
 use mathlib.Core.Path.{_≡_, sym, ap₂, _∙_}
 use native.Mathlib.Omega.{arith}
 use borrow.Author.Needs.{needs}
-use Rattle.bitmatrix.specs.Fold.{fold, sum}
-use Rattle.bitmatrix.specs.Judge.{X, weight, ones}
-use Rattle.bitmatrix.proofs.Fold.{fold-more}
+use Rattle.matrix.specs.Fold.{fold, sum}
+use Rattle.matrix.specs.Matrix.{weight}
+use Rattle.bitmatrix.specs.Judge.{X, ones}
+use Rattle.matrix.proofs.Fold.{fold-more}
 use Rattle.bitmatrix.proofs.Weight.{matrices-le}
 use Rattle.bitmatrix.proofs.ones_of.Statement.{statement}
 use Rattle.bitmatrix.proofs.ones_of.Tie as tie

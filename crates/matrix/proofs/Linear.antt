@@ -6,11 +6,11 @@ use native.Mathlib.Nat.{add-comm, mul-comm, pow-suc}
 use native.Mathlib.Omega.{arith}
 use lib.Arith.{digits-lt}
 use lib.Bits.{bitXor, xor-block}
-use Rattle.bitmatrix.specs.Fold.{fold, sum}
-use Rattle.bitmatrix.specs.Matrix.{Matrix, bit, row, component, apply, add}
+use Rattle.matrix.specs.Fold.{fold, sum}
+use Rattle.matrix.specs.Matrix.{Matrix, bit, row, component, apply, add}
 use Rattle.base.proofs.Table.{getD-tabulate}
-use Rattle.bitmatrix.proofs.Fold.{fold-ext}
-use Rattle.bitmatrix.proofs.Bits.{bit-xor, xor-parity}
+use Rattle.matrix.proofs.Fold.{fold-ext}
+use Rattle.matrix.proofs.Bits.{bit-xor, xor-parity}
 
 -- ---- one bit of the product
 

@@ -7,7 +7,7 @@ use native.Mathlib.Decide.{le-ind}
 use native.Mathlib.Nat.{not-suc-le-zero, eq-or-lt-of-le, le-of-suc-le-suc, suc-mul, add-le-add}
 use native.Mathlib.Numerals.{add-one}
 use native.Mathlib.Omega.{arith}
-use Rattle.bitmatrix.specs.Fold.{fold, sum}
+use Rattle.matrix.specs.Fold.{fold, sum}
 
 module _ {A : Type 0} (op : A → A → A) (e : A) where
   -- one place more, as a loop counts

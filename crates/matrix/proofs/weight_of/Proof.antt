@@ -1,16 +1,15 @@
--- `bitmatrix::weight_of` meets its contract. The loop's invariant: n is the sum over the rows below r, at most 8 for each.
+-- `matrix::weight_of` meets its contract. The loop's invariant: n is the sum over the rows below r, at most 8 for each.
 -- Assumes nothing.
 use Prim.Native.Nat.{_-_, _+_, _≤_}
 use mathlib.Core.Path.{_≡_, sym, ap₂, _∙_}
 use native.Mathlib.Omega.{arith}
 use borrow.Author.Needs.{needs}
-use Rattle.bitmatrix.specs.Fold.{fold, sum}
-use Rattle.bitmatrix.specs.Matrix.{entry}
-use Rattle.bitmatrix.specs.Judge.{weight}
-use Rattle.bitmatrix.proofs.Fold.{fold-more}
-use Rattle.bitmatrix.proofs.Weight.{rows-le}
-use Rattle.bitmatrix.proofs.weight_of.Statement.{statement}
-use Rattle.bitmatrix.proofs.weight_of.Tie as tie
+use Rattle.matrix.specs.Fold.{fold, sum}
+use Rattle.matrix.specs.Matrix.{entry, weight}
+use Rattle.matrix.proofs.Fold.{fold-more}
+use Rattle.matrix.proofs.Weight.{rows-le}
+use Rattle.matrix.proofs.weight_of.Statement.{statement}
+use Rattle.matrix.proofs.weight_of.Tie as tie
 
 abbrev Inv-loop : tie.InvT-loop
 Inv-loop m n₀ r₀ n r = (r ≤ 8) × (n ≡ sum r (λ k. sum 8 (λ c. entry m k c)))

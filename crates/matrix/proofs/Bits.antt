@@ -6,12 +6,12 @@ use native.Mathlib.Nat.{div-one}
 use native.Mathlib.Numerals.{one-add, add-one}
 use native.Mathlib.Omega.{arith}
 use lib.Arith.{half-le, lt-one}
-use lib.Bits.{bitAnd, bitXor, and-shr, and-mod, xor-shr, xor-mod}
+use lib.Bits.{bitAnd, bitXor, and-shr, and-mod, xor-shr, xor-mod, xor-zero-r}
 use lib.Count
 use lib.Pow.{shr-shr, shr-lt}
-use Rattle.bitmatrix.specs.Fold.{fold, sum}
-use Rattle.bitmatrix.specs.Matrix.{bit}
-use Rattle.bitmatrix.proofs.Fold.{fold-ext}
+use Rattle.matrix.specs.Fold.{fold, sum}
+use Rattle.matrix.specs.Matrix.{bit}
+use Rattle.matrix.proofs.Fold.{fold-ext}
 
 -- the bits above the lowest are those of the half
 bit-suc : (x c : ℕ) → bit x (suc c) ≡ bit (x / 2) c
@@ -50,6 +50,34 @@ pub bit-xor : (a b c : ℕ) → bit (bitXor a b) c ≡ (bit a c + bit b c) % 2
 bit-xor a b c =
     ap (λ (x : ℕ). x % 2) (xor-shr a b c) ∙ xor-mod (a / 2 ^ c) (b / 2 ^ c) 1
     ∙ xor-parity (bit a c) (bit b c) (omega arith) (omega arith)
+
+-- p + q = r + s gives p + r = q + s
+parity-swap : (p q r s : ℕ) → (p + q) % 2 ≡ (r + s) % 2 → (p + r) % 2 ≡ (q + s) % 2
+parity-swap p q r s e = omega arith
+
+pub xor-swap : (p q r s : ℕ) → bitXor p q ≡ bitXor r s → bitXor p r ≡ bitXor q s
+xor-swap p q r s e =
+    bits-ext _ _
+    (λ c.
+    bit-xor p r c
+    ∙ parity-swap (bit p c) (bit q c) (bit r c) (bit s c) (sym (bit-xor p q c) ∙ ap (λ (x : ℕ). bit x c) e ∙ bit-xor r s c)
+    ∙ sym (bit-xor q s c))
+
+pub xor-zero : (a b : ℕ) → bitXor a b ≡ 0 → a ≡ b
+xor-zero a b e = sym (xor-zero-r a) ∙ xor-swap a b 0 0 e ∙ xor-zero-r b
+
+parity-assoc : (a b c : ℕ) → ((a + b) % 2 + c) % 2 ≡ (a + (b + c) % 2) % 2
+parity-assoc a b c = omega arith
+
+pub xor-assoc : (a b c : ℕ) → bitXor (bitXor a b) c ≡ bitXor a (bitXor b c)
+xor-assoc a b c =
+    bits-ext _ _
+    (λ i.
+    bit-xor (bitXor a b) c i
+    ∙ ap (λ (x : ℕ). (x + bit c i) % 2) (bit-xor a b i)
+    ∙ parity-assoc (bit a i) (bit b i) (bit c i)
+    ∙ ap (λ (x : ℕ). (bit a i + x) % 2) (sym (bit-xor b c i))
+    ∙ sym (bit-xor a (bitXor b c) i))
 
 -- a sum, its first term apart
 sum-front : (n : ℕ) (f : ℕ → ℕ) → sum (suc n) f ≡ f 0 + sum n (λ k. f (suc k))

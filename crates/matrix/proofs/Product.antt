@@ -6,10 +6,10 @@ use native.Mathlib.Nat.{zero-mul, le-mul-of-pos-right}
 use native.Mathlib.Omega.{arith}
 use lib.Bits.{bitAnd}
 use lib.Pow.{pow-pos}
-use Rattle.bitmatrix.specs.Fold.{sum}
-use Rattle.bitmatrix.specs.Matrix.{Matrix, bit, row, component, apply}
-use Rattle.bitmatrix.proofs.Fold.{fold-ext, fold-none, none-fold}
-use Rattle.bitmatrix.proofs.Bits.{bit-and}
+use Rattle.matrix.specs.Fold.{sum}
+use Rattle.matrix.specs.Matrix.{Matrix, bit, row, component, apply}
+use Rattle.matrix.proofs.Fold.{fold-ext, fold-none, none-fold}
+use Rattle.matrix.proofs.Bits.{bit-and}
 
 -- a bit of the product is the parity of the ones that row and vector share
 pub component-and : (m : Matrix) (v r : ℕ) → sum 8 (λ c. bit (bitAnd (row m r) v) c) % 2 ≡ component m v r

@@ -5,9 +5,8 @@ use mathlib.Core.Bool.{Bool, true, false, not, _&&_, _||_, false≢true}
 use Prim.Native.Nat.{ℕ, _<_}
 use borrow.Author.Tests.{eqb-true, eqb-false, eq-eqb, ne-eqb}
 use lib.Dec.{eqb}
-use Rattle.bitmatrix.specs.Matrix.{Matrix, apply, onlyZeroAt, invertible}
-use Rattle.bitmatrix.specs.Cone.{Invertible}
-use Rattle.bitmatrix.proofs.Fold.{fold-none, none-fold}
+use Rattle.matrix.specs.Matrix.{Matrix, apply, onlyZeroAt, invertible, Invertible}
+use Rattle.matrix.proofs.Fold.{fold-none, none-fold}
 
 pub and-true : (a b : Bool) → (a && b) ≡ true → (a ≡ true) × (b ≡ true)
 and-true true b e = (refl, e)

@@ -1,4 +1,4 @@
--- `bitmatrix::sum_of` meets its contract. The loop's invariant: the rows below r are summed. The measure is what is left.
+-- `matrix::sum_of` meets its contract. The loop's invariant: the rows below r are summed. The measure is what is left.
 -- Assumes nothing.
 use mathlib.Core.Path.{refl}
 use Prim.Native.Nat.{_-_, _≤_}
@@ -6,9 +6,9 @@ use native.Mathlib.Omega.{arith}
 use borrow.Author.Needs.{needs}
 use lib.Bits.{bitXor}
 use Rattle.base.proofs.Fill.{Filled, fill-none, fill-more, fill-all}
-use Rattle.bitmatrix.specs.Matrix.{row}
-use Rattle.bitmatrix.proofs.sum_of.Statement.{statement}
-use Rattle.bitmatrix.proofs.sum_of.Tie as tie
+use Rattle.matrix.specs.Matrix.{row}
+use Rattle.matrix.proofs.sum_of.Statement.{statement}
+use Rattle.matrix.proofs.sum_of.Tie as tie
 
 abbrev Inv-loop : tie.InvT-loop
 Inv-loop b s₀ r₀ s r = (r ≤ 8) × Filled (λ r x. bitXor x (row b r)) 8 s₀ s r

@@ -1,13 +1,14 @@
 -- Matrices of eight rows and eight columns over two elements, as document 01 writes them down: a row is a byte, and column c is its bit of weight 2 ^ c.
 -- A vector is a byte in the same way. Assumes nothing.
+use mathlib.Core.Path.{_≡_}
 use mathlib.Core.Bool.{Bool, not, _||_}
 use mathlib.Core.List.{List}
-use Prim.Native.Nat.{ℕ, _*_, _/_, _%_, _^_}
+use Prim.Native.Nat.{ℕ, _*_, _/_, _%_, _^_, _<_}
 use lib.Bits.{bitXor}
 use lib.Dec.{eqb}
 use lib.ListN.{getD}
 use Rattle.base.specs.Table.{tabulate}
-use Rattle.bitmatrix.specs.Fold.{sum, all}
+use Rattle.matrix.specs.Fold.{sum, all}
 
 -- the rows
 abbrev pub Matrix : Type 0
@@ -47,3 +48,11 @@ invertible m = all 256 (λ v. onlyZeroAt m v)
 
 abbrev pub singular : Matrix → Bool
 singular m = not (invertible m)
+
+-- invertible, as a proposition
+abbrev pub Invertible : Matrix → Type 0
+Invertible m = (v : ℕ) → v < 256 → apply m v ≡ 0 → v ≡ 0
+
+-- the entries of a matrix that are one
+unfoldable pub weight : Matrix → ℕ
+weight m = sum 8 (λ r. sum 8 (λ c. entry m r c))

@@ -1,4 +1,4 @@
--- `bitmatrix::is_singular` meets its contract. The loop's invariant: every vector below v maps to zero only if it is zero.
+-- `matrix::is_singular` meets its contract. The loop's invariant: every vector below v maps to zero only if it is zero.
 -- Assumes nothing.
 use Prim.Native.Nat.{_-_, _≤_}
 use mathlib.Core.Path.{_≡_, refl, sym, ap, ap₂, _∙_}
@@ -6,11 +6,11 @@ use mathlib.Core.Bool.{true, not, _&&_, _||_}
 use native.Mathlib.Omega.{arith}
 use borrow.Author.Needs.{needs}
 use borrow.Author.Tests.{ne-eqb}
-use Rattle.bitmatrix.specs.Fold.{fold, all}
-use Rattle.bitmatrix.specs.Matrix.{onlyZeroAt, invertible}
-use Rattle.bitmatrix.proofs.Fold.{fold-more, fold-met}
-use Rattle.bitmatrix.proofs.is_singular.Statement.{statement}
-use Rattle.bitmatrix.proofs.is_singular.Tie as tie
+use Rattle.matrix.specs.Fold.{fold, all}
+use Rattle.matrix.specs.Matrix.{onlyZeroAt, invertible}
+use Rattle.matrix.proofs.Fold.{fold-more, fold-met}
+use Rattle.matrix.proofs.is_singular.Statement.{statement}
+use Rattle.matrix.proofs.is_singular.Tie as tie
 
 abbrev Inv-loop : tie.InvT-loop
 Inv-loop m v₀ v = (1 ≤ v) × (v ≤ 256) × (all v (λ w. onlyZeroAt m w) ≡ true)

@@ -1,4 +1,4 @@
--- `bitmatrix::maps_to_zero` meets its contract. The loop's invariant: the bits of the product below r are zero.
+-- `matrix::maps_to_zero` meets its contract. The loop's invariant: the bits of the product below r are zero.
 -- Assumes nothing.
 use Prim.Native.Nat.{ℕ, _-_, _%_, _≤_, _<_}
 use mathlib.Core.Path.{_≡_, sym, ap, _∙_}
@@ -6,10 +6,10 @@ use native.Mathlib.Omega.{arith}
 use borrow.Author.Count.{below-more}
 use borrow.Author.Tests.{eq-eqb, ne-eqb}
 use borrow.Author.Needs.{needs}
-use Rattle.bitmatrix.specs.Matrix.{component}
-use Rattle.bitmatrix.proofs.Product.{component-and, apply-zero, zero-apply}
-use Rattle.bitmatrix.proofs.maps_to_zero.Statement.{statement}
-use Rattle.bitmatrix.proofs.maps_to_zero.Tie as tie
+use Rattle.matrix.specs.Matrix.{component}
+use Rattle.matrix.proofs.Product.{component-and, apply-zero, zero-apply}
+use Rattle.matrix.proofs.maps_to_zero.Statement.{statement}
+use Rattle.matrix.proofs.maps_to_zero.Tie as tie
 
 abbrev Inv-loop : tie.InvT-loop
 Inv-loop v m r₀ r = (r ≤ 8) × ((k : ℕ) → k < r → component m v k ≡ 0)

@@ -1,10 +1,10 @@
--- `bitmatrix::ones_of_byte` meets its contract: the language's count of a byte's ones is the sum of its eight bits.
+-- `matrix::ones_of_byte` meets its contract: the language's count of a byte's ones is the sum of its eight bits.
 -- Assumes nothing.
 use native.Mathlib.Omega.{arith}
 use lib.Count.{ones-le}
-use Rattle.bitmatrix.proofs.Bits.{ones-bits}
-use Rattle.bitmatrix.proofs.ones_of_byte.Statement.{statement}
-use Rattle.bitmatrix.proofs.ones_of_byte.Tie as tie
+use Rattle.matrix.proofs.Bits.{ones-bits}
+use Rattle.matrix.proofs.ones_of_byte.Statement.{statement}
+use Rattle.matrix.proofs.ones_of_byte.Tie as tie
 
 cast-result : tie.Need-cast-result
 cast-result c = omega (arith, ones-le 8 (c .args .x) (c .fits .x .fits))
