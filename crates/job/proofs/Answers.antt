@@ -20,13 +20,13 @@ use Rattle.base.specs.Refusal.{unlessRefused}
 use Rattle.shape.proofs.Refused.{well-shaped}
 use Rattle.base.proofs.Choice.{below-or-not}
 use Rattle.base.proofs.Refused.{left-alone}
-use Rattle.job.specs.Fields.{bigEndian, fields}
-use Rattle.job.specs.Header.{mark, commandOf, geometryOf, lossNamed, stripeOf}
+use Rattle.header.specs.Fields.{bigEndian, fields}
+use Rattle.header.specs.Header.{mark, commandOf, geometryOf, lossNamed, stripeOf}
 use Rattle.devices.specs.Codes.{misnamed}
-use Rattle.job.specs.Refusals.{jobRefusal}
+use Rattle.header.specs.Refusals.{jobRefusal}
 use Rattle.job.specs.Answer.{opening, restored, body, answerTo, AnswerCall, inputSize, outputSize, AnswerInputCall}
-use Rattle.job.proofs.Accepted.{accepted}
-use Rattle.job.proofs.Headed.{refusal-past-limit, too-long}
+use Rattle.header.proofs.Accepted.{accepted}
+use Rattle.header.proofs.Headed.{refusal-past-limit, too-long}
 use Rattle.job.proofs.Bodies.{body-encode, body-rebuild, body-check, length-check, length-stripe}
 
 -- a refused job gets the six bytes alone

@@ -21,11 +21,11 @@ use Rattle.stripe.specs.Calls.{afterEncode, afterRebuild, rebuiltBy}
 use Rattle.shape.proofs.Places.{length-lift}
 use Rattle.base.proofs.Table.{length-tabulate}
 use Rattle.base.proofs.Refused.{first-passed, left-done}
-use Rattle.job.specs.Header.{commandOf, geometryOf, lossNamed, stripeOf}
+use Rattle.header.specs.Header.{commandOf, geometryOf, lossNamed, stripeOf}
 use Rattle.devices.specs.Codes.{misnamed, namedTwice}
 use Rattle.job.specs.Answer.{restored, report, body}
-use Rattle.job.proofs.Accepted.{Accepted}
-use Rattle.job.proofs.Fielded.{length-fields}
+use Rattle.header.proofs.Accepted.{Accepted}
+use Rattle.header.proofs.Fielded.{length-fields}
 
 length-restored : (g : Geometry) (loss : Naming) (s : List ℕ) → length (restored g loss s) ≡ length s
 length-restored g (Loss lost) s = length-lift g (λ i c. rebuildColumn reedSolomon (g .n) lost c) s

@@ -19,12 +19,12 @@ use Rattle.devices.specs.Refusals.{unknown}
 use Rattle.devices.specs.Codes.{namingOf, misnamed, namedTwice}
 use Rattle.devices.proofs.Order.{same-comm, codes-exchanged}
 use Rattle.devices.proofs.Exchanged.{rebuild-exchanged}
-use Rattle.job.specs.Fields.{field}
-use Rattle.job.specs.Header.{commandOf, geometryOf, lossNamed, stripeOf, Exchanged}
-use Rattle.job.specs.Refusals.{jobRefusal}
+use Rattle.header.specs.Fields.{field}
+use Rattle.header.specs.Header.{commandOf, geometryOf, lossNamed, stripeOf, Exchanged}
+use Rattle.header.specs.Refusals.{jobRefusal}
 use Rattle.job.specs.Answer.{opening, restored, body, answerTo}
-use Rattle.job.proofs.Accepted.{Accepted, accepted}
-use Rattle.job.proofs.Headed.{same-byte, same-field}
+use Rattle.header.proofs.Accepted.{Accepted, accepted}
+use Rattle.header.proofs.Headed.{same-byte, same-field}
 use Rattle.job.proofs.Bodies.{body-rebuild, loss-accepted}
 use Rattle.job.proofs.Answers.{answer-refused, answer-accepted}
 

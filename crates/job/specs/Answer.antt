@@ -12,9 +12,9 @@ use Rattle.base.specs.Choice.{choose}
 use Rattle.stripe.specs.Stripe.{encoded, rebuilt, verdicts}
 use Rattle.verdict.specs.Summary.{summary}
 use Rattle.base.specs.Refusal.{unlessRefused}
-use Rattle.job.specs.Fields.{bigEndian, fields}
-use Rattle.job.specs.Header.{mark, commandOf, geometryOf, lossNamed, stripeOf}
-use Rattle.job.specs.Refusals.{jobRefusal}
+use Rattle.header.specs.Fields.{bigEndian, fields}
+use Rattle.header.specs.Header.{mark, commandOf, geometryOf, lossNamed, stripeOf}
+use Rattle.header.specs.Refusals.{jobRefusal}
 
 -- the six bytes of every answer
 abbrev pub opening : ℕ → List ℕ

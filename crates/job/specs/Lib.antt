@@ -1,5 +1,1 @@
-pub mod Fields
-pub mod Header
-pub mod Refusals
 pub mod Answer
-pub mod Steps

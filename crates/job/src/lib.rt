@@ -3,17 +3,13 @@
 use shape::Geometry;
 use stripe::Checked;
 ghost use mathlib.Core.Path.{_≡_};
-ghost use Prim.Native.Nat.{_+_, _*_, _/_, _%_, _≤_};
-ghost use lib.ListN.{length, set};
-ghost use Rattle.devices.specs.Codes.{namedBy};
-ghost use Rattle.base.specs.Refusal.{firstOf};
+ghost use Prim.Native.Nat.{_+_, _*_};
+ghost use lib.ListN.{length};
 ghost use Rattle.shape.specs.Refusals.{encodeRefusal};
 ghost use Rattle.stripe.specs.Stripe.{verdicts};
-ghost use Rattle.job.specs.Fields.{fields};
-ghost use Rattle.job.specs.Header.{geometryOf};
-ghost use Rattle.job.specs.Refusals.{jobRefusal};
+ghost use Rattle.header.specs.Fields.{fields};
+ghost use Rattle.header.specs.Refusals.{jobRefusal};
 ghost use Rattle.job.specs.Answer.{report, body, answerTo, AnswerCall, AnswerInputCall};
-ghost use Rattle.job.specs.Steps.{FieldRead, headerRefusals, callRefusals};
 
 // Answers the bytes read into the program's input buffer. Its output has room for every answer.
 pub fn answer_input(input: &[u8; 61455], read: usize, output: &mut [u8; 61446]) -> usize
@@ -32,7 +28,7 @@ pub fn answer_input(input: &[u8; 61455], read: usize, output: &mut [u8; 61446]) 
 pub fn answer(job: &[u8], out: &mut [u8]) -> usize
     ensures { λ r. ⌜ AnswerCall (now (job .entry)) (now (out .entry)) r (now (out .exit)) ⌝ }
 {
-    let refused = refusal(job);
+    let refused = header::refusal(job);
     let len = answer_length(job, refused);
     if out.len() < len {
         return 0;
@@ -40,75 +36,6 @@ pub fn answer(job: &[u8], out: &mut [u8]) -> usize
     respond(job, refused, &mut out[..len]);
     len
 }
-
-// ---- the refusals in their order; 0 where none applies
-
-fn refusal(job: &[u8]) -> u8
-    ensures { λ r. ⌜ r ≡ jobRefusal (now (job .entry)) ⌝ }
-{
-    let refused = header_refusal(job);
-    if refused != 0 {
-        return refused;
-    }
-    let g = geometry(job);
-    let outside = shape::limits_refusal(shape::library_limits(), g);
-    if outside != 0 {
-        return outside;
-    }
-    if 61440 < (g.n + 2) * g.b {
-        return 20;
-    }
-    call_refusal(g, job.len() - 14, job[5], field(job, 10), field(job, 12))
-}
-
-// 16 to 19.
-fn header_refusal(job: &[u8]) -> u8
-    ensures { λ r. ⌜ r ≡ firstOf (headerRefusals (now (job .entry))) ⌝ }
-{
-    if job.len() < 14 {
-        return 16;
-    }
-    if job[0] != 0x53 {
-        return 17;
-    }
-    if job[1] != 0x52 {
-        return 17;
-    }
-    if job[2] != 0x4a {
-        return 17;
-    }
-    if field(job, 3) != 1 {
-        return 18;
-    }
-    let command = job[5];
-    if command == 0 {
-        return 19;
-    }
-    if 3 < command {
-        return 19;
-    }
-    0
-}
-
-// 1 to 5, as the command's call has them. Encode and check want no device.
-fn call_refusal(g: Geometry, len: usize, command: u8, first: usize, second: usize) -> u8
-    ensures { λ r. ⌜ r ≡ firstOf (callRefusals g len command (namedBy first) (namedBy second)) ⌝ }
-{
-    if command == 2 {
-        return devices::named_refusal(g, len, first, second);
-    }
-    let refused = shape::encode_refusal(g, len);
-    if refused != 0 {
-        return refused;
-    }
-    if devices::no_devices(first, second) {
-        0
-    } else {
-        4
-    }
-}
-
-// ---- the answer
 
 // The six bytes alone, or with a summary and B verdicts behind them, or with the stripe.
 fn answer_length(job: &[u8], refused: u8) -> usize
@@ -119,7 +46,7 @@ fn answer_length(job: &[u8], refused: u8) -> usize
         return 6;
     }
     if job[5] == 3 {
-        return 8 + 2 * field(job, 8);
+        return 8 + 2 * header::field(job, 8);
     }
     job.len() - 8
 }
@@ -142,7 +69,7 @@ fn run(job: &[u8], out: &mut [u8])
     requires { ⌜ (jobRefusal (now job) ≡ 0) × (length (now out) ≡ length (body (now job))) ⌝ }
     ensures { λ _. ⌜ now (out .exit) ≡ body (now (job .entry)) ⌝ }
 {
-    let g = geometry(job);
+    let g = header::geometry(job);
     let command = job[5];
     let stripe = &job[14..];
     if command == 3 {
@@ -154,7 +81,7 @@ fn run(job: &[u8], out: &mut [u8])
         stripe::encode(g, out);
         return;
     }
-    stripe::rebuild_named(g, out, field(job, 10), field(job, 12));
+    stripe::rebuild_named(g, out, header::field(job, 10), header::field(job, 12));
 }
 
 fn check(g: Geometry, stripe: &[u8], out: &mut [u8])
@@ -174,7 +101,7 @@ fn check_in(g: Geometry, stripe: &[u8], room: &mut [u16], out: &mut [u8])
     let Checked::Summary(summary) = stripe::check(g, stripe, room) else {
         return;
     };
-    put(out, 0, summary);
+    header::put(out, 0, summary);
     put_all(room, &mut out[2..]);
 }
 
@@ -184,36 +111,7 @@ fn put_all(values: &[u16], out: &mut [u8])
 {
     let mut i = 0;
     while i < values.len() {
-        put(out, 2 * i, values[i]);
+        header::put(out, 2 * i, values[i]);
         i += 1;
     }
-}
-
-// ---- 16-bit fields, high byte first
-
-fn put(out: &mut [u8], at: usize, value: u16)
-    requires { ⌜ at + 2 ≤ length (now out) ⌝ }
-    ensures { λ _. ⌜ now (out .exit) ≡ set (set (now (out .entry)) at (value / 256)) (at + 1) (value % 256) ⌝ }
-{
-    out[at] = (value / 256) as u8;
-    out[at + 1] = (value % 256) as u8;
-}
-
-fn geometry(job: &[u8]) -> Geometry
-    requires { ⌜ 14 ≤ length (now job) ⌝ }
-    ensures { λ r. ⌜ r ≡ geometryOf (now (job .entry)) ⌝ }
-{
-    Geometry {
-        n: field(job, 6),
-        b: field(job, 8),
-    }
-}
-
-fn field(bytes: &[u8], at: usize) -> usize
-    requires { ⌜ at + 2 ≤ length (now bytes) ⌝ }
-    ensures { λ r. ⌜ FieldRead (now (bytes .entry)) at r ⌝ }
-{
-    let high = bytes[at];
-    let low = bytes[at + 1];
-    (high as usize) * 256 + low as usize
 }

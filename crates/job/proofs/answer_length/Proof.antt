@@ -4,8 +4,8 @@ use mathlib.Core.Path.{_≡_, sym, ap, _∙_}
 use native.Mathlib.Omega.{arith}
 use borrow.Author.Needs.{needs}
 use lib.ListN.{length, length-drop}
-use Rattle.job.specs.Refusals.{jobRefusal}
-use Rattle.job.proofs.Accepted.{Accepted, accepted}
+use Rattle.header.specs.Refusals.{jobRefusal}
+use Rattle.header.proofs.Accepted.{Accepted, accepted}
 use Rattle.job.proofs.Answers.{answer-refused, length-accepted}
 use Rattle.job.proofs.Bodies.{length-check, length-stripe}
 use Rattle.job.proofs.answer_length.Statement.{statement}
@@ -24,7 +24,7 @@ shared-slice-read-if2 : tie.Need-shared-slice-read-if2
 shared-slice-read-if2 c = omega (arith, ok (c .before) .long)
 
 field-requires : tie.Need-field-requires
-field-requires c κs = omega (arith, ok (c .before .before) .long)
+field-requires c κs = search needs
 
 mul-result : tie.Need-mul-result
 mul-result c = search needs

@@ -13,8 +13,8 @@ use Rattle.shape.specs.Refusals.{library, shapeRefusals, refusal7, checkRefusal
 use Rattle.stripe.specs.Stripe.{verdicts}
 use Rattle.verdict.specs.Summary.{summary}
 use Rattle.base.proofs.Refused.{first-passed, left-done}
-use Rattle.job.specs.Fields.{bigEndian, fields}
-use Rattle.job.proofs.Fielded.{set-two}
+use Rattle.header.specs.Fields.{bigEndian, fields}
+use Rattle.header.proofs.Fielded.{set-two}
 use Rattle.base.proofs.Tails.{put-tail}
 use Rattle.job.proofs.check_in.Statement.{statement}
 use Rattle.job.proofs.check_in.Tie as tie

@@ -1,12 +1,13 @@
 -- `job::put_all` meets its contract. The loop's invariant: the first i fields are stored. The measure is what is left of the numbers.
 -- Assumes nothing.
-use Prim.Native.Nat.{ℕ, _+_, _*_, _-_, _/_, _%_, _≤_}
+use Prim.Native.Nat.{ℕ, _*_, _-_, _≤_}
 use mathlib.Core.Path.{_≡_, refl, ap, _∙_}
 use mathlib.Core.List.{List, _++_}
 use native.Mathlib.Omega.{arith}
-use lib.ListN.{length, getD, take, drop, set}
-use Rattle.job.specs.Fields.{fields}
-use Rattle.job.proofs.Fielded.{fields-more, fields-all}
+use borrow.Author.Needs.{needs}
+use lib.ListN.{length, getD, take, drop}
+use Rattle.header.specs.Fields.{stored, fields}
+use Rattle.header.proofs.Fielded.{fields-more, fields-all}
 use Rattle.job.proofs.put_all.Statement.{statement}
 use Rattle.job.proofs.put_all.Tie as tie
 
@@ -31,7 +32,7 @@ shared-slice-read-put : tie.Need-shared-slice-read-put Inv-loop μ-loop
 shared-slice-read-put c = omega arith
 
 put-requires : tie.Need-put-requires Inv-loop μ-loop
-put-requires c κs = omega arith
+put-requires c κs = search needs
 
 add-i : tie.Need-add-i Inv-loop μ-loop
 add-i c = omega arith
@@ -47,7 +48,7 @@ loop-again c =
       omega arith,
       omega arith,
       c .before .before .put .ensures
-          ∙ ap (λ (o : List ℕ). set (set o (2 * l .i) (v / 256)) (2 * l .i + 1) (v % 256)) (l .inv .2)
+          ∙ ap (λ (o : List ℕ). stored o (2 * l .i) v) (l .inv .2)
           ∙ fields-more (a .values .now) (a .out .now) (l .i) (omega arith) (omega (arith, c .before .before .before .before .before .before .before .before .before .pre)),
     )
 

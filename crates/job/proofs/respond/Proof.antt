@@ -6,7 +6,7 @@ use Prim.Native.Nat.{ℕ, _≤_}
 use native.Mathlib.Omega.{arith}
 use borrow.Author.Needs.{needs}
 use lib.ListN.{length, take, drop, length-drop, drop-of-length-le}
-use Rattle.job.specs.Refusals.{jobRefusal}
+use Rattle.header.specs.Refusals.{jobRefusal}
 use Rattle.job.specs.Answer.{opening, body}
 use Rattle.job.proofs.Answers.{answer-refused, answer-accepted, length-accepted, answer-least}
 use Rattle.base.proofs.Tails.{tail, put-tail}

@@ -11,9 +11,9 @@ use Rattle.stripe.specs.Calls.{afterEncode, rebuiltBy}
 use Rattle.devices.specs.Codes.{namingOf}
 use Rattle.shape.specs.Refusals.{encodeRefusal}
 use Rattle.stripe.specs.Stripe.{verdicts}
-use Rattle.job.specs.Header.{geometryOf, stripeOf}
+use Rattle.header.specs.Header.{geometryOf, stripeOf}
 use Rattle.job.specs.Answer.{report}
-use Rattle.job.proofs.Accepted.{Accepted, accepted}
+use Rattle.header.proofs.Accepted.{Accepted, accepted}
 use Rattle.job.proofs.Bodies.{body-check, length-check, length-stripe, other, encode-done, rebuild-done}
 use Rattle.base.proofs.Tails.{tail, filled}
 use Rattle.job.proofs.run.Statement.{statement}
@@ -36,7 +36,7 @@ copied c =
     ∙ filled (stripeOf (a .job .now)) (a .out .now) (room (c .before .before .before .before))
 
 geometry-requires : tie.Need-geometry-requires
-geometry-requires c κs = ok (c .before .before) .long
+geometry-requires c κs = search needs
 
 shared-slice-read-command : tie.Need-shared-slice-read-command
 shared-slice-read-command c = omega (arith, ok (c .before .before .before .before) .long)
@@ -87,10 +87,10 @@ returns-2 c =
     ∙ encode-done (s .args .job .now) (ok s) (c .before .before .before .before .if2 .taken)
 
 field-requires : tie.Need-field-requires
-field-requires c κs = omega (arith, ok (c .before .before .before .before .before .before .before .before .before .before .before .before) .long)
+field-requires c κs = search needs
 
 field-requires-2 : tie.Need-field-requires-2
-field-requires-2 c κs = ok (c .before .before .before .before .before .before .before .before .before .before .before .before .before) .long
+field-requires-2 c κs = search needs
 
 rebuild-named-requires : tie.Need-rebuild-named-requires
 rebuild-named-requires c κs = search needs

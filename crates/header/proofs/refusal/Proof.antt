@@ -1,4 +1,4 @@
--- `job::refusal` meets its contract: the steps of the order, one after the other.
+-- `header::refusal` meets its contract: the steps of the order, one after the other.
 -- Assumes nothing.
 use borrow.Author.Needs.{needs}
 use mathlib.Core.Path.{_≡_, refl, sym, ap, ap₂, _∙_}
@@ -15,12 +15,12 @@ use Rattle.shape.specs.declared.Limits.{Limits}
 use Rattle.shape.specs.Layout.{size}
 use Rattle.shape.specs.Refusals.{library, limitsRefusals}
 use Rattle.shape.proofs.Refused.{Within, within-limits}
-use Rattle.job.specs.Header.{geometryOf}
-use Rattle.job.specs.Refusals.{jobRefusal}
-use Rattle.job.specs.Steps.{headerRefusals}
-use Rattle.job.proofs.Order.{limitsOf, restOf, from20, behindHeader, header-long, call-as}
-use Rattle.job.proofs.refusal.Statement.{statement}
-use Rattle.job.proofs.refusal.Tie as tie
+use Rattle.header.specs.Header.{geometryOf}
+use Rattle.header.specs.Refusals.{jobRefusal}
+use Rattle.header.specs.Steps.{headerRefusals}
+use Rattle.header.proofs.Order.{limitsOf, restOf, from20, behindHeader, header-long, call-as}
+use Rattle.header.proofs.refusal.Statement.{statement}
+use Rattle.header.proofs.refusal.Tie as tie
 
 -- the header is whole where none of its refusals applied, and what follows it decides
 long : (c : tie.Else1) → 14 ≤ length (c .before .before .before .args .job .now)
@@ -53,7 +53,7 @@ returns c =
     refused-first (headerRefusals job) (behindHeader job) (c .before .header-refusal .ensures) (c .if1 .taken)
 
 geometry-requires : tie.Need-geometry-requires
-geometry-requires c κs = long c
+geometry-requires c κs = search needs
 
 library-limits-requires : tie.Need-library-limits-requires
 library-limits-requires c κs = search needs
@@ -88,10 +88,10 @@ shared-slice-read-call-refusal : tie.Need-shared-slice-read-call-refusal
 shared-slice-read-call-refusal c = omega (arith, long (c .before .before .before .before .before .before .before .before))
 
 field-requires : tie.Need-field-requires
-field-requires c κs = omega (arith, long (c .before .before .before .before .before .before .before .before))
+field-requires c κs = search needs
 
 field-requires-2 : tie.Need-field-requires-2
-field-requires-2 c κs = omega (arith, long (c .before .before .before .before .before .before .before .before .before))
+field-requires-2 c κs = search needs
 
 call-refusal-requires : tie.Need-call-refusal-requires
 call-refusal-requires c κs = search needs

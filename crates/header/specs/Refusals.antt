@@ -11,7 +11,7 @@ use Rattle.devices.specs.declared.Named.{Named}
 use Rattle.shape.specs.Layout.{size}
 use Rattle.shape.specs.Refusals.{library, refusal1, refusal2, refusal3}
 use Rattle.devices.specs.Codes.{lossOf, misnamed, namedTwice, noDevices}
-use Rattle.job.specs.Header.{mark, versionOf, commandOf, geometryOf, firstDevice, secondDevice, stripeOf}
+use Rattle.header.specs.Header.{mark, versionOf, commandOf, geometryOf, firstDevice, secondDevice, stripeOf}
 
 -- a job shorter than 14 bytes
 abbrev pub refusal16 : List ℕ → Refusal

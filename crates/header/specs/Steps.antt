@@ -1,19 +1,12 @@
 -- What the private functions promise; no public contract rests on this file.
-use Prim.Native.Nat.{ℕ, _<_}
-use mathlib.Core.Path.{_≡_}
+use Prim.Native.Nat.{ℕ}
 use mathlib.Core.List.{List, [], _∷_}
 use Rattle.base.specs.Refusal.{Refusal}
 use Rattle.shape.specs.declared.Geometry.{Geometry}
 use Rattle.devices.specs.declared.Named.{Named}
 use Rattle.shape.specs.Refusals.{library, refusal1, refusal2, refusal3}
-use Rattle.job.specs.Fields.{field}
-use Rattle.job.specs.Header.{commandOf}
-use Rattle.job.specs.Refusals.{refusal4, refusal5, refusal16, refusal17, refusal18, refusal19}
-
--- a field that was read
-pub record FieldRead (bytes : List ℕ) (at r : ℕ) : Type 0 where
-  pub value : r ≡ field bytes at
-  pub small : r < 65536
+use Rattle.header.specs.Header.{commandOf}
+use Rattle.header.specs.Refusals.{refusal4, refusal5, refusal16, refusal17, refusal18, refusal19}
 
 -- the refusals of the header
 abbrev pub headerRefusals : List ℕ → List Refusal

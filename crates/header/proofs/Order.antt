@@ -13,10 +13,10 @@ use Rattle.devices.specs.declared.Named.{Named}
 use Rattle.devices.specs.declared.Named.the-variants.{Device, Nothing, Meaningless}
 use Rattle.shape.specs.Refusals.{library, limitsRefusals, refusal3}
 use Rattle.devices.specs.Codes.{namedBy, lossOf, namedTwice, noDevices}
-use Rattle.job.specs.Fields.{field}
-use Rattle.job.specs.Header.{commandOf, geometryOf, firstDevice, secondDevice, stripeOf}
-use Rattle.job.specs.Refusals.{refusal4, refusal5, refusal20}
-use Rattle.job.specs.Steps.{headerRefusals, callRefusals}
+use Rattle.header.specs.Fields.{field}
+use Rattle.header.specs.Header.{commandOf, geometryOf, firstDevice, secondDevice, stripeOf}
+use Rattle.header.specs.Refusals.{refusal4, refusal5, refusal20}
+use Rattle.header.specs.Steps.{headerRefusals, callRefusals}
 
 abbrev pub limitsOf : List ℕ → List Refusal
 limitsOf job = limitsRefusals library (geometryOf job)

@@ -1,4 +1,4 @@
--- `job::call_refusal` meets its contract, by the command.
+-- `header::call_refusal` meets its contract, by the command.
 -- Assumes nothing.
 use borrow.Author.Needs.{needs}
 use mathlib.Core.Path.{_≡_, refl, sym, _∙_}
@@ -8,10 +8,10 @@ use borrow.Author.Tests.{eq-eqb, ne-eqb}
 use Rattle.base.proofs.Refused.{refused-first, refused-then}
 use Rattle.shape.specs.Refusals.{library, shapeRefusals}
 use Rattle.devices.specs.Codes.{namedBy, noDevices}
-use Rattle.job.specs.Refusals.{refusal4, refusal5}
-use Rattle.job.proofs.Order.{none-twice}
-use Rattle.job.proofs.call_refusal.Statement.{statement}
-use Rattle.job.proofs.call_refusal.Tie as tie
+use Rattle.header.specs.Refusals.{refusal4, refusal5}
+use Rattle.header.proofs.Order.{none-twice}
+use Rattle.header.proofs.call_refusal.Statement.{statement}
+use Rattle.header.proofs.call_refusal.Tie as tie
 
 named-refusal-requires : tie.Need-named-refusal-requires
 named-refusal-requires c κs = search needs

@@ -1,10 +1,10 @@
--- `job::geometry` meets its contract: both fields are within the header.
+-- `header::geometry` meets its contract: n and B are the fields that it reads.
 -- Assumes nothing.
 use mathlib.Core.Path.{ap₂}
 use Prim.Native.Nat.{ℕ}
 use borrow.Author.Needs.{needs}
-use Rattle.job.proofs.geometry.Statement.{statement}
-use Rattle.job.proofs.geometry.Tie as tie
+use Rattle.header.proofs.geometry.Statement.{statement}
+use Rattle.header.proofs.geometry.Tie as tie
 
 field-requires : tie.Need-field-requires
 field-requires c κs = search needs

@@ -9,7 +9,7 @@ use Rattle.shape.specs.Layout.{geometry}
 use Rattle.devices.specs.declared.Named.{Named}
 use Rattle.devices.specs.declared.Naming.{Naming}
 use Rattle.devices.specs.Codes.{namedBy, lossOf}
-use Rattle.job.specs.Fields.{field}
+use Rattle.header.specs.Fields.{field}
 
 -- "SRJ"
 abbrev pub mark : List ℕ

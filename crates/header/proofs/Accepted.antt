@@ -11,8 +11,8 @@ use lib.ListN.{length}
 use Rattle.shape.specs.Layout.{size}
 use Rattle.shape.specs.Refusals.{library, refusal1, refusal2, refusal3, encodeRefusal}
 use Rattle.base.proofs.Choice.{either-false}
-use Rattle.job.specs.Header.{commandOf, geometryOf, firstDevice, secondDevice, stripeOf}
-use Rattle.job.specs.Refusals.{order, refusal4, refusal5, refusal16, refusal19, refusal20, jobRefusal}
+use Rattle.header.specs.Header.{commandOf, geometryOf, firstDevice, secondDevice, stripeOf}
+use Rattle.header.specs.Refusals.{order, refusal4, refusal5, refusal16, refusal19, refusal20, jobRefusal}
 use Rattle.base.proofs.Refused.{none-applies}
 
 pub record Accepted (job : List ℕ) : Type 0 where

@@ -14,12 +14,12 @@ use Rattle.base.specs.Choice.{choose}
 use Rattle.base.specs.Refusal.{Refusal, firstOf}
 use Rattle.shape.specs.Layout.{size}
 use Rattle.shape.proofs.Refused.{well-shaped}
-use Rattle.job.specs.Fields.{field}
-use Rattle.job.specs.Header.{geometryOf, stripeOf}
-use Rattle.job.specs.Refusals.{refusal20, jobRefusal}
-use Rattle.job.specs.Steps.{headerRefusals}
-use Rattle.job.proofs.Order.{limitsOf, from3}
-use Rattle.job.proofs.Accepted.{accepted}
+use Rattle.header.specs.Fields.{field}
+use Rattle.header.specs.Header.{geometryOf, stripeOf}
+use Rattle.header.specs.Refusals.{refusal20, jobRefusal}
+use Rattle.header.specs.Steps.{headerRefusals}
+use Rattle.header.proofs.Order.{limitsOf, from3}
+use Rattle.header.proofs.Accepted.{accepted}
 
 -- two orders that begin alike
 first-tail : (xs ys zs : List Refusal) → firstOf ys ≡ firstOf zs → firstOf (xs ++ ys) ≡ firstOf (xs ++ zs)

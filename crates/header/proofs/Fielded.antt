@@ -7,7 +7,7 @@ use native.Mathlib.Numerals.{add-one, add-two}
 use native.Mathlib.Omega.{arith}
 use lib.ListN.{length, getD, take, drop, set, drop-of-length-le}
 use lib.Seq.{take-suc, drop-cons, take-all, length-take-le}
-use Rattle.job.specs.Fields.{bigEndian, fields}
+use Rattle.header.specs.Fields.{stored, bigEndian, fields}
 
 pub length-fields : (vs : List ℕ) → length (fields vs) ≡ 2 * length vs
 unfolding fields
@@ -35,8 +35,7 @@ set-two p d n a b e h =
 
 -- the first i fields are stored: one more, and all
 pub fields-more : (vs d : List ℕ) (i : ℕ) → i < length vs → 2 * length vs ≤ length d
-    → set (set (fields (take i vs) ++ drop (2 * i) d) (2 * i) (getD vs i 0 / 256)) (2 * i + 1) (getD vs i 0 % 256)
-    ≡ fields (take (i + 1) vs) ++ drop (2 * (i + 1)) d
+    → stored (fields (take i vs) ++ drop (2 * i) d) (2 * i) (getD vs i 0) ≡ fields (take (i + 1) vs) ++ drop (2 * (i + 1)) d
 unfolding fields
 fields-more vs d i h room =
     set-two (fields (take i vs)) d (2 * i) (getD vs i 0 / 256) (getD vs i 0 % 256) front (omega arith)

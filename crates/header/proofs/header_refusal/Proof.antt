@@ -1,14 +1,14 @@
--- `job::header_refusal` meets its contract: each `return` rewrites by the tests that led there.
+-- `header::header_refusal` meets its contract: each `return` rewrites by the tests that led there.
 -- Assumes nothing.
 use mathlib.Core.Path.{_≡_, sym, _∙_}
 use mathlib.Core.List.{List, [], _∷_}
 use borrow.Author.Needs.{needs}
 use borrow.Author.Tests.{eq-eqb, ne-eqb, lt-ltb, le-ltb}
 use Rattle.base.specs.Refusal.{Refusal, firstOf}
-use Rattle.job.specs.Header.{commandOf}
-use Rattle.job.specs.Refusals.{refusal16, refusal17, refusal18, refusal19}
-use Rattle.job.proofs.header_refusal.Statement.{statement}
-use Rattle.job.proofs.header_refusal.Tie as tie
+use Rattle.header.specs.Header.{commandOf}
+use Rattle.header.specs.Refusals.{refusal16, refusal17, refusal18, refusal19}
+use Rattle.header.proofs.header_refusal.Statement.{statement}
+use Rattle.header.proofs.header_refusal.Tie as tie
 
 -- the refusals that do not apply where the version is tested, and where the command is
 marked : (c : tie.Else4) (rs : List Refusal)

@@ -1,0 +1,4 @@
+pub mod Fielded
+pub mod Order
+pub mod Accepted
+pub mod Headed

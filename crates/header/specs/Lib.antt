@@ -1,0 +1,4 @@
+pub mod Fields
+pub mod Header
+pub mod Refusals
+pub mod Steps
