@@ -1,10 +1,6 @@
 -- `losses::coefficients` meets its contract: each step is the definition's own.
 -- Assumes nothing.
-use mathlib.Core.Path.{ap₂}
-use Prim.Native.Nat.{ℕ}
 use borrow.Author.Needs.{needs}
-use Rattle.losses.specs.declared.Rule.the-variants.{Mixed}
-use Rattle.losses.specs.Losses.{element}
 use Rattle.losses.proofs.coefficients.Statement.{statement}
 use Rattle.losses.proofs.coefficients.Tie as tie
 
@@ -33,7 +29,10 @@ product-requires-3 : tie.Need-product-requires-3
 product-requires-3 c κs = search needs
 
 returns : tie.Need-returns
-returns c = ap₂ (λ (a b : ℕ). Mixed (element a) (element b)) (cc) (cc)
+returns c =
+    let over = c .before .before .before .before .before .before in
+    let ratio = c .before .before .before .before in
+    rw (← over .before .power-of-disk .ensures, ← over .inverse .ensures, ← ratio .before .power-of-disk2 .ensures, ← ratio .product .ensures, ← c .before .before .before .sum .ensures, ← c .before .before .inverse2 .ensures, ← c .before .product2 .ensures, ← c .product3 .ensures)
 
 pub coefficients-spec : {M : Type 1} → statement M
 coefficients-spec =
