@@ -1,9 +1,6 @@
 -- `losses::with_data` meets its contract, by the other device's case.
 -- Assumes nothing.
-use mathlib.Core.Path.{_≡_, ap}
 use borrow.Author.Needs.{needs}
-use Rattle.gf256.specs.Field.{power, inverse}
-use Rattle.losses.specs.Losses.{element}
 use Rattle.losses.proofs.with_data.Statement.{statement}
 use Rattle.losses.proofs.with_data.Tie as tie
 
@@ -35,14 +32,10 @@ returns : tie.Need-returns
 returns c = rw (c .before .before .other .given .1, c .coefficients .ensures)
 
 returns-2 : tie.Need-returns-2
-returns-2 c =
-    let inverted : c .inverse .result ≡ element (inverse (power 2 (c .before .before .before .before .args .x))) = ap element (cc) in
-    rw (c .before .before .enum-told .given .1, inverted)
+returns-2 c = rw (c .before .before .enum-told .given .1, ← c .before .power-of-disk .ensures, ← c .inverse .ensures)
 
 returns-3 : tie.Need-returns-3
-returns-3 c =
-    let raised : c .power-of-disk2 .result ≡ element (power 2 (c .before .before .before .args .x)) = ap element (c .power-of-disk2 .ensures) in
-    rw (c .before .enum-told2 .given .1, raised)
+returns-3 c = rw (c .before .enum-told2 .given .1, ← c .power-of-disk2 .ensures)
 
 pub with-data-spec : {M : Type 1} → statement M
 with-data-spec =
