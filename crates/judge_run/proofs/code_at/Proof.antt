@@ -52,7 +52,7 @@ matrix-at-requires-8 c κs = search needs
 
 returns : tie.Need-returns
 unfolding codeAt
-returns c = cc
+returns c = simp (c .matrix-at8 .ensures, c .before .matrix-at7 .ensures, c .before .before .matrix-at6 .ensures, c .before .before .before .matrix-at5 .ensures, c .before .before .before .before .matrix-at4 .ensures, c .before .before .before .before .before .matrix-at3 .ensures, c .before .before .before .before .before .before .matrix-at2 .ensures, c .before .before .before .before .before .before .before .matrix-at .ensures)
 
 pub code-at-spec : {M : Type 1} → statement M
 code-at-spec =
