@@ -7,7 +7,7 @@ use native.Mathlib.Numerals.{add-one, add-two}
 use native.Mathlib.Omega.{arith}
 use lib.ListN.{length, getD, take, drop, set, drop-of-length-le}
 use lib.Seq.{take-suc, drop-cons, take-all, length-take-le}
-use Rattle.header.specs.Fields.{stored, bigEndian, fields}
+use Rattle.header.specs.Fields.{bigEndian, fields}
 
 pub length-fields : (vs : List ℕ) → length (fields vs) ≡ 2 * length vs
 unfolding fields
@@ -24,7 +24,7 @@ set-pair : (p : List ℕ) (x y a b : ℕ) (r : List ℕ) → set (set (p ++ (x �
 set-pair [] x y a b r = refl
 set-pair (q ∷ p) x y a b r = ap (λ (l : List ℕ). q ∷ l) (set-pair p x y a b r)
 
-pub set-two : (p d : List ℕ) (n a b : ℕ) → length p ≡ n → n + 2 ≤ length d
+set-two : (p d : List ℕ) (n a b : ℕ) → length p ≡ n → n + 2 ≤ length d
     → set (set (p ++ drop n d) n a) (n + 1) b ≡ p ++ (a ∷ b ∷ drop (n + 2) d)
 set-two p d n a b e h =
     ap (λ (l : List ℕ). set (set (p ++ l) n a) (n + 1) b) two
@@ -35,7 +35,8 @@ set-two p d n a b e h =
 
 -- the first i fields are stored: one more, and all
 pub fields-more : (vs d : List ℕ) (i : ℕ) → i < length vs → 2 * length vs ≤ length d
-    → stored (fields (take i vs) ++ drop (2 * i) d) (2 * i) (getD vs i 0) ≡ fields (take (i + 1) vs) ++ drop (2 * (i + 1)) d
+    → set (set (fields (take i vs) ++ drop (2 * i) d) (2 * i) (getD vs i 0 / 256)) (2 * i + 1) (getD vs i 0 % 256)
+    ≡ fields (take (i + 1) vs) ++ drop (2 * (i + 1)) d
 unfolding fields
 fields-more vs d i h room =
     set-two (fields (take i vs)) d (2 * i) (getD vs i 0 / 256) (getD vs i 0 % 256) front (omega arith)

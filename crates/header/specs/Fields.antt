@@ -2,7 +2,7 @@
 use Prim.Native.Nat.{ℕ, _+_, _*_, _/_, _%_, _<_}
 use mathlib.Core.Path.{_≡_}
 use mathlib.Core.List.{List, [], _∷_, _++_}
-use lib.ListN.{getD, set}
+use lib.ListN.{getD}
 
 -- the number that stands at a place, with 00 past the end
 unfoldable pub field : List ℕ → ℕ → ℕ
@@ -12,10 +12,6 @@ field bytes at = getD bytes at 0 * 256 + getD bytes (at + 1) 0
 pub record FieldRead (bytes : List ℕ) (at r : ℕ) : Type 0 where
   pub value : r ≡ field bytes at
   pub small : r < 65536
-
--- a number stored at a place; nothing past the end
-abbrev pub stored : List ℕ → ℕ → ℕ → List ℕ
-stored bytes at v = set (set bytes at (v / 256)) (at + 1) (v % 256)
 
 -- the two bytes of a number, and those of several numbers one after the other
 abbrev pub bigEndian : ℕ → List ℕ

@@ -4,7 +4,7 @@ use shape::Geometry;
 ghost use mathlib.Core.Path.{_≡_};
 ghost use Rattle.devices.specs.Codes.{namedBy};
 ghost use Rattle.base.specs.Refusal.{firstOf};
-ghost use Rattle.header.specs.Fields.{FieldRead, stored};
+ghost use Rattle.header.specs.Fields.{FieldRead, bigEndian};
 ghost use Rattle.header.specs.Header.{geometryOf};
 ghost use Rattle.header.specs.Refusals.{jobRefusal};
 ghost use Rattle.header.specs.Steps.{headerRefusals, callRefusals};
@@ -78,18 +78,10 @@ fn call_refusal(g: Geometry, len: usize, command: u8, first: usize, second: usiz
 
 // ---- 16-bit fields, high byte first
 
-// Stores the bytes of the field that the output has places for.
-pub fn put(out: &mut [u8], at: usize, value: u16)
-    ensures { λ _. ⌜ now (out .exit) ≡ stored (now (out .entry)) at value ⌝ }
+pub fn big_endian(value: u16) -> [u8; 2]
+    ensures { λ r. ⌜ r ≡ bigEndian value ⌝ }
 {
-    if out.len() <= at {
-        return;
-    }
-    out[at] = (value / 256) as u8;
-    if out.len() <= at + 1 {
-        return;
-    }
-    out[at + 1] = (value % 256) as u8;
+    [(value / 256) as u8, (value % 256) as u8]
 }
 
 pub fn geometry(job: &[u8]) -> Geometry

@@ -101,7 +101,7 @@ fn check_in(g: Geometry, stripe: &[u8], room: &mut [u16], out: &mut [u8])
     let Checked::Summary(summary) = stripe::check(g, stripe, room) else {
         return;
     };
-    header::put(out, 0, summary);
+    bytes::copy(&header::big_endian(summary), out);
     put_all(room, &mut out[2..]);
 }
 
@@ -111,7 +111,9 @@ fn put_all(values: &[u16], out: &mut [u8])
 {
     let mut i = 0;
     while i < values.len() {
-        header::put(out, 2 * i, values[i]);
+        let pair = header::big_endian(values[i]);
+        out[2 * i] = pair[0];
+        out[2 * i + 1] = pair[1];
         i += 1;
     }
 }

@@ -2,11 +2,11 @@
 -- Assumes nothing.
 use mathlib.Core.Path.{_≡_, refl, ap, ap₂, _∙_}
 use mathlib.Core.List.{List, [], _∷_, _++_}
-use Prim.Native.Nat.{ℕ, _/_, _%_}
+use Prim.Native.Nat.{ℕ}
 use native.Mathlib.Omega.{arith}
 use borrow.Author.Needs.{needs}
 use borrow.Author.Tests.{eq-eqb}
-use lib.ListN.{length, take}
+use lib.ListN.{length, take, drop}
 use Rattle.stripe.specs.declared.Checked.the-variants.{Summary}
 use Rattle.stripe.specs.Calls.{checkedOf, afterCheck}
 use Rattle.shape.specs.Refusals.{library, shapeRefusals, refusal7, checkRefusal}
@@ -14,7 +14,6 @@ use Rattle.stripe.specs.Stripe.{verdicts}
 use Rattle.verdict.specs.Summary.{summary}
 use Rattle.base.proofs.Refused.{first-passed, left-done}
 use Rattle.header.specs.Fields.{bigEndian, fields}
-use Rattle.header.proofs.Fielded.{set-two}
 use Rattle.base.proofs.Tails.{put-tail}
 use Rattle.job.proofs.check_in.Statement.{statement}
 use Rattle.job.proofs.check_in.Tie as tie
@@ -57,8 +56,14 @@ returns c =
     let z : _≡_ {A = ℕ} 0 1 = cc in
     absurd (omega arith)
 
-put-requires : tie.Need-put-requires
-put-requires c κs = search needs
+big-endian-requires : tie.Need-big-endian-requires
+big-endian-requires c κs = search needs
+
+slice-aggregate-copy : tie.Need-slice-aggregate-copy
+slice-aggregate-copy c = search needs
+
+copy-requires : tie.Need-copy-requires
+copy-requires c κs = search needs
 
 sub-put-all : tie.Need-sub-put-all
 sub-put-all c = search needs
@@ -81,14 +86,14 @@ same-length-3 c = search needs
 returns-2 : tie.Need-returns-2
 unfolding fields
 returns-2 c =
-    let a = c .before .before .before .before .before .before .before .before .before .before .before .before .before .before .before .before .before .before .before .args in
-    let found = done (c .before .before .before .before .before .before .before .before .before .before .before .before) in
-    let given = c .before .before .before .before .before .before .before .before .before .before .summary .given .1 in
-    let v = c .before .before .before .before .before .before .before .before .before .before .summary .given .0 .0 in
+    let a = c .before .before .before .before .before .before .before .before .before .before .before .before .before .before .before .before .before .before .before .before .before .args in
+    let found = done (c .before .before .before .before .before .before .before .before .before .before .before .before .before .before) in
+    let given = c .before .before .before .before .before .before .before .before .before .before .before .before .summary .given .1 in
+    let v = c .before .before .before .before .before .before .before .before .before .before .before .before .summary .given .0 .0 in
     let first : v ≡ summary (verdicts (a .g) (a .stripe .now)) = cc in
-    put-tail 2 (c .before .before .before .before .before .before .before .put .last .0) (c .before .before .put-all .last .1 .0)
-    ∙ ap₂ (λ (l m : List ℕ). take 2 l ++ m) (c .before .before .before .before .before .before .before .put .ensures ∙ set-two [] (a .out .now) 0 (v / 256) (v % 256) refl (omega (arith, c .before .before .before .before .before .before .before .before .before .before .before .before .before .before .before .before .before .before .before .pre .2))) (c .before .before .put-all .ensures)
-    ∙ ap₂ (λ (k : ℕ) (l : List ℕ). bigEndian k ++ fields l) first (left (c .before .before .before .before .before .before .before .before .before .before .before .before))
+    put-tail 2 (c .before .before .before .before .before .before .before .copy .last .1 .0) (c .before .before .put-all .last .1 .0)
+    ∙ ap₂ (λ (l m : List ℕ). take 2 l ++ m) (c .before .before .before .before .before .before .before .copy .ensures .1 ∙ ap (λ (p : List ℕ). take (length p) p ++ drop (length p) (a .out .now)) (c .before .before .before .before .before .before .before .before .before .before .big-endian .ensures)) (c .before .before .put-all .ensures)
+    ∙ ap₂ (λ (k : ℕ) (l : List ℕ). bigEndian k ++ fields l) first (left (c .before .before .before .before .before .before .before .before .before .before .before .before .before .before))
 
 pub check-in-spec : {M : Type 1} → statement M
 check-in-spec =
@@ -99,7 +104,9 @@ check-in-spec =
     enum-told
     same-length
     returns
-    put-requires
+    big-endian-requires
+    slice-aggregate-copy
+    copy-requires
     sub-put-all
     part-put-all-start
     part-put-all-end

@@ -1,12 +1,12 @@
 -- `job::put_all` meets its contract. The loop's invariant: the first i fields are stored. The measure is what is left of the numbers.
 -- Assumes nothing.
-use Prim.Native.Nat.{ℕ, _*_, _-_, _≤_}
-use mathlib.Core.Path.{_≡_, refl, ap, _∙_}
+use Prim.Native.Nat.{ℕ, _+_, _*_, _-_, _≤_}
+use mathlib.Core.Path.{_≡_, refl, ap₂, _∙_}
 use mathlib.Core.List.{List, _++_}
 use native.Mathlib.Omega.{arith}
 use borrow.Author.Needs.{needs}
-use lib.ListN.{length, getD, take, drop}
-use Rattle.header.specs.Fields.{stored, fields}
+use lib.ListN.{length, getD, take, drop, set, length-set}
+use Rattle.header.specs.Fields.{fields}
 use Rattle.header.proofs.Fielded.{fields-more, fields-all}
 use Rattle.job.proofs.put_all.Statement.{statement}
 use Rattle.job.proofs.put_all.Tie as tie
@@ -22,17 +22,35 @@ loop-holds : tie.Need-loop-holds Inv-loop μ-loop
 unfolding fields
 loop-holds c = (omega arith, refl, refl)
 
-mul-put : tie.Need-mul-put Inv-loop μ-loop
-mul-put c = omega arith
+mul-big-endian : tie.Need-mul-big-endian Inv-loop μ-loop
+mul-big-endian c = omega arith
 
-mul-put-2 : tie.Need-mul-put-2 Inv-loop μ-loop
-mul-put-2 c = omega arith
+shared-slice-read-big-endian : tie.Need-shared-slice-read-big-endian Inv-loop μ-loop
+shared-slice-read-big-endian c = omega arith
 
-shared-slice-read-put : tie.Need-shared-slice-read-put Inv-loop μ-loop
-shared-slice-read-put c = omega arith
+big-endian-requires : tie.Need-big-endian-requires Inv-loop μ-loop
+big-endian-requires c κs = search needs
 
-put-requires : tie.Need-put-requires Inv-loop μ-loop
-put-requires c κs = search needs
+array-read-out : tie.Need-array-read-out Inv-loop μ-loop
+array-read-out c = omega arith
+
+mul-out : tie.Need-mul-out Inv-loop μ-loop
+mul-out c = omega arith
+
+slice-write-out : tie.Need-slice-write-out Inv-loop μ-loop
+slice-write-out c = omega arith
+
+array-read-out-2 : tie.Need-array-read-out-2 Inv-loop μ-loop
+array-read-out-2 c = omega arith
+
+mul-out-2 : tie.Need-mul-out-2 Inv-loop μ-loop
+mul-out-2 c = omega arith
+
+add-out : tie.Need-add-out Inv-loop μ-loop
+add-out c = omega arith
+
+slice-write-out-2 : tie.Need-slice-write-out-2 Inv-loop μ-loop
+slice-write-out-2 c = simp length-set (omega arith)
 
 add-i : tie.Need-add-i Inv-loop μ-loop
 add-i c = omega arith
@@ -42,14 +60,12 @@ loop-less c = omega arith
 
 loop-again : tie.Need-loop-again Inv-loop μ-loop
 loop-again c =
-    let a = c .before .before .before .before .before .before .before .before .before .args in
-    let l = c .before .before .before .before .before .before .loop in
-    let v = getD (a .values .now) (l .i) 0 in (
+    let s = c .before .before .before .before .before .before in
+    let l = c .before .before .before .loop in (
       omega arith,
-      omega arith,
-      c .before .before .put .ensures
-          ∙ ap (λ (o : List ℕ). stored o (2 * l .i) v) (l .inv .2)
-          ∙ fields-more (a .values .now) (a .out .now) (l .i) (omega arith) (omega (arith, c .before .before .before .before .before .before .before .before .before .pre)),
+      simp length-set (l .inv .1),
+      ap₂ (λ (p o : List ℕ). set (set o (2 * l .i) (getD p 0 0)) (2 * l .i + 1) (getD p 1 0)) (c .big-endian .ensures) (l .inv .2)
+          ∙ fields-more (s .args .values .now) (s .args .out .now) (l .i) (omega arith) (omega (arith, s .pre)),
     )
 
 same-length : tie.Need-same-length Inv-loop μ-loop
@@ -68,10 +84,16 @@ put-all-spec =
     Inv-loop
     μ-loop
     loop-holds
-    mul-put
-    mul-put-2
-    shared-slice-read-put
-    put-requires
+    mul-big-endian
+    shared-slice-read-big-endian
+    big-endian-requires
+    array-read-out
+    mul-out
+    slice-write-out
+    array-read-out-2
+    mul-out-2
+    add-out
+    slice-write-out-2
     add-i
     loop-less
     loop-again
