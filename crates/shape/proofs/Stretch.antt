@@ -1,8 +1,8 @@
 -- A stretch of a block: where it stands in the buffer, and what setting it does to the columns.
 -- Assumes nothing.
-use mathlib.Core.Path.{_≡_, sym, ap, ap₂, subst, _∙_}
+use mathlib.Core.Path.{_≡_, sym, ap, _∙_}
 use mathlib.Core.Logic.{_≢_, _⊎_, ⊎-elim}
-use mathlib.Core.List.{List, _++_}
+use mathlib.Core.List.{List}
 use Prim.Native.Nat.{ℕ, suc, _+_, _-_, _≤_, _<_}
 use native.Mathlib.Omega.{arith}
 use lib.ListN.{length, getD, take, drop, length-take, length-drop}
@@ -15,8 +15,7 @@ use Rattle.column.proofs.Put.{by-role, put-same, put-other}
 use Rattle.shape.specs.declared.Geometry.{Geometry}
 use Rattle.shape.specs.Layout.{start, lowStart, placeBefore, column}
 use Rattle.shape.specs.Refusals.{WellShaped}
-use Rattle.shape.specs.Columns.{ColumnsMapped, Stretch}
-use Rattle.shape.proofs.Columns.{columns-as}
+use Rattle.shape.specs.Columns.{ColumnsMapped}
 use Rattle.shape.proofs.Places.{low-start, block-end, start-mono, start-end}
 
 -- the block of a role that the stripe has begins where `start` says
@@ -27,28 +26,27 @@ block-start g s r shaped hr e = e ∙ low-start g r (omega (arith, shaped .block
 pub before-start : (g : Geometry) (k i : ℕ) {at : ℕ} → g .b < 4294967296 → at < 18446744073709551616 → at ≡ start g (suc k) + i → placeBefore g at ≡ start g k + i
 before-start g k i block fits is = let ends = block-end g k in omega arith
 
-module _ (g : Geometry) (s : List ℕ) (role offset : ℕ) {count : ℕ} (shaped : WellShaped g s) (stretch : Stretch g role offset count) where
-  pub stretch-inside : start g role + offset + count ≤ length s
-  stretch-inside =
-      let ends = block-end g role in
-      let below = start-mono g {r = suc role} {t = g .n + 2} (omega (arith, stretch .known)) in
-      let last = start-end g in
-      omega (arith, stretch .fits, shaped .whole)
+pub stretch-inside : (g : Geometry) (s : List ℕ) (role offset count : ℕ) → WellShaped g s → role < g .n + 2 → offset + count ≤ g .b → start g role + offset + count ≤ length s
+stretch-inside g s role offset count shaped known fits =
+    let ends = block-end g role in
+    let below = start-mono g {r = suc role} {t = g .n + 2} (omega arith) in
+    let last = start-end g in
+    omega (arith, shaped .whole)
 
 -- a stretch set
-module _ (g : Geometry) (s : List ℕ) (d i : ℕ) (m : List ℕ) (shaped : WellShaped g s) (stretch : Stretch g d i (length m)) where
+module _ (g : Geometry) (s : List ℕ) (d i : ℕ) (m : List ℕ) (shaped : WellShaped g s) (known : d < g .n + 2) (within-block : i + length m ≤ g .b) where
   abbrev t : List ℕ
   t = spliced s (start g d + i) m
 
   fits : start g d + i + length m ≤ length s
-  fits = stretch-inside g s d i shaped stretch
+  fits = stretch-inside g s d i (length m) shaped known within-block
 
   -- the other roles' blocks end before it or begin after it
   other : (c r : ℕ) → c < g .b → r ≢ d → column g t c r ≡ column g s c r
   other c r hc h =
       ⊎-elim (λ p. spliced-low s (start g d + i) m fits (start g r + c) (omega (arith, block-end g r, start-mono g p)))
       (λ p.
-      spliced-high s (start g d + i) m fits (start g r + c) (omega (arith, stretch .fits, block-end g d, start-mono g {r = suc d} {t = r} (omega arith))))
+      spliced-high s (start g d + i) m fits (start g r + c) (omega (arith, within-block, block-end g d, start-mono g {r = suc d} {t = r} (omega arith))))
       (below-or-not r d)
 
   pub columns-set : ColumnsMapped g i (length m) (λ j c. put d (getD m j 0) c) s t
@@ -58,7 +56,7 @@ module _ (g : Geometry) (s : List ℕ) (d i : ℕ) (m : List ℕ) (shaped : Well
         within = λ j p.
             by-role d
             (ap (λ (a : ℕ). getD t a 0) (omega arith) ∙ spliced-in s (start g d + i) m fits j p ∙ sym (put-same d (getD m j 0) (column g s (i + j))))
-            (λ r h. other (i + j) r (omega (arith, stretch .fits)) h ∙ sym (put-other d (getD m j 0) (column g s (i + j)) r h));
+            (λ r h. other (i + j) r (omega (arith, within-block)) h ∙ sym (put-other d (getD m j 0) (column g s (i + j)) r h));
         outside = λ c p where-it-is.
             by-role d
             (⊎-elim (λ l. spliced-low s (start g d + i) m fits (start g d + c) (omega arith)) (λ l. spliced-high s (start g d + i) m fits (start g d + c) (omega arith)) where-it-is)
@@ -75,13 +73,3 @@ module _ (g : Geometry) (s : List ℕ) (role i w : ℕ) {at : ℕ} (is : at ≡ 
 
   pub part-length : at + i + w ≤ length s → length (take (at + i + w - (at + i)) (drop (at + i) s)) ≡ w
   part-length fits = simp (length-take, length-drop) (omega arith)
-
-  pub part-set : (m : List ℕ) {rest : List ℕ} (v : ℕ → ℕ) → WellShaped g s → Stretch g role i w → length m ≡ w → ((j : ℕ) → j < w → getD m j 0 ≡ v j)
-      → rest ≡ drop (at + i + w) s
-      → ColumnsMapped g i w (λ j c. put role (v j) c) s (take (at + i) s ++ (m ++ rest))
-  part-set m {rest} v shaped stretch long same after =
-      columns-as
-      (subst (λ (t : List ℕ). ColumnsMapped g i w (λ j c. put role (getD m j 0) c) s t) (ap₂ (λ (p : ℕ) (r : List ℕ). take (p + i) s ++ (m ++ r)) (sym is) (ap₂ (λ (p k : ℕ). drop (p + i + k) s) (sym is) long ∙ sym after))
-      (subst (λ (k : ℕ). ColumnsMapped g i k (λ j c. put role (getD m j 0) c) s (spliced s (start g role + i) m)) long
-      (columns-set g s role i m shaped (subst (Stretch g role i) (sym long) stretch))))
-      (λ j p. ap (λ (x : ℕ). put role x (column g s (i + j))) (same j p))

@@ -1,13 +1,10 @@
--- What the theorems about stripes suppose can be met: every n and B within the limits has a stripe, and every role's whole block is a stretch.
+-- What the theorems about stripes suppose can be met: every n and B within the limits has a stripe.
 -- Assumes nothing.
-use Prim.Native.Nat.{ℕ, _+_, _<_}
-use native.Mathlib.Omega.{arith}
 use Rattle.base.specs.Table.{tabulate}
 use Rattle.base.proofs.Table.{length-tabulate}
 use Rattle.shape.specs.declared.Geometry.{Geometry}
 use Rattle.shape.specs.Layout.{size}
 use Rattle.shape.specs.Refusals.{library, WellShaped}
-use Rattle.shape.specs.Columns.{Stretch}
 use Rattle.shape.proofs.Refused.{Within}
 
 pub some-stripe : (g : Geometry) → Within library g → WellShaped g (tabulate (size g) (λ j. 0))
@@ -19,6 +16,3 @@ some-stripe g within =
       disk = within .disk;
       whole = length-tabulate (size g) (λ j. 0);
     }
-
-pub whole-block : (g : Geometry) (role : ℕ) → role < g .n + 2 → Stretch g role 0 (g .b)
-whole-block g role known = record { known = known; fits = omega arith }

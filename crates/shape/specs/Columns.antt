@@ -13,8 +13,3 @@ pub record ColumnsMapped (g : Geometry) (i w : ℕ) (f : ℕ → Column → Colu
   pub kept : length t ≡ length s
   pub within : (j : ℕ) → j < w → column g t (i + j) ≡ f j (column g s (i + j))
   pub outside : (c : ℕ) → c < g .b → (c < i) ⊎ (i + w ≤ c) → column g t c ≡ column g s c
-
--- a stretch of a role's block: count bytes from an offset on
-pub record Stretch (g : Geometry) (role offset count : ℕ) : Type 0 where
-  pub known : role < g .n + 2
-  pub fits : offset + count ≤ g .b

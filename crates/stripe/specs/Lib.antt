@@ -1,3 +1,2 @@
 pub mod Stripe
 pub mod Calls
-pub mod Engine

@@ -11,6 +11,7 @@ use lib.ListN.{length, getD, take, drop, length-take, length-drop}
 use lib.Seq.{getD-take, getD-drop}
 use Rattle.base.specs.Choice.{choose}
 use Rattle.base.proofs.Choice.{below-or-not}
+use Rattle.gf256.specs.Field.{sum, product, power}
 use Rattle.column.specs.Column.{Column, put, reedSolomon, writeColumn}
 use Rattle.chunk.specs.Chunk.{width, each}
 use Rattle.chunk.proofs.Laws.{each-at}
@@ -18,9 +19,12 @@ use Rattle.shape.specs.declared.Geometry.{Geometry}
 use Rattle.shape.specs.Layout.{column, lift}
 use Rattle.shape.specs.Refusals.{WellShaped}
 use Rattle.shape.specs.Columns.{ColumnsMapped}
-use Rattle.shape.proofs.Columns.{columns-count, columns-as, columns-more, columns-all}
+use Rattle.shape.proofs.Columns.{columns-count, columns-as, columns-then, columns-more, columns-all}
+use Rattle.stretch.specs.Stretch.{Has, columnOf, setOn}
+use Rattle.stretch.proofs.Laws.{has-same, seen, set-columns, set-two}
 use Rattle.write.specs.Write.{covers}
-use Rattle.write.specs.Steps.{Changed}
+use Rattle.write.specs.declared.Parities.{Parities}
+use Rattle.write.specs.Changed.{changedBy}
 
 pub stretch-lift : {g : Geometry} {offset count : ℕ} {f : ℕ → Column → Column} {s t : List ℕ} → WellShaped g s → offset + count ≤ g .b
     → ColumnsMapped g offset count f s t
@@ -38,17 +42,31 @@ stretch-lift {g} {offset} {count} {f} {s} {t} shaped fits step =
         (below-or-not i (offset + count)))
         (below-or-not i offset)
 
--- d are the new bytes as a chunk
-pub stored-is : {g : Geometry} {disk i w : ℕ} (new : List ℕ) {d p q s t : List ℕ} → w ≡ length new → w ≤ width → d ≡ each (λ j. getD new j 0)
-    → Changed g disk i w d s p q
-    → ColumnsMapped g i w (λ j c. put disk (getD d j 0) (put (g .n) (getD p j 0) (put (g .n + 1) (getD q j 0) c))) s t
-    → ColumnsMapped g i (length new) (λ j c. writeColumn reedSolomon (g .n) disk (getD new j 0) c) s t
-stored-is {g} {disk} {i} {w} new {d} {s = s} count small is after step =
-    columns-count count
-    (columns-as step
-    (λ j h.
-    ap₂ (λ (v u : ℕ). put disk (getD d j 0) (put (g .n) v (put (g .n + 1) u (column g s (i + j))))) (after .first j h) (after .second j h)
-    ∙ ap (λ (x : ℕ). writeColumn reedSolomon (g .n) disk x (column g s (i + j))) (ap (λ (l : List ℕ). getD l j 0) is ∙ each-at _ j (omega arith))))
+-- P, Q and the disk's bytes set one after the other, d being the new bytes as a chunk
+pub written-is : {g : Geometry} {disk i w c : ℕ} (new : List ℕ) {s t u v old p q d : List ℕ} {after : Parities} → Has g s i w → disk < g .n → c ≡ power 2 disk
+    → old ≡ each (λ j. columnOf g s i w j disk)
+    → p ≡ each (λ j. columnOf g s i w j (g .n))
+    → q ≡ each (λ j. columnOf g s i w j (g .n + 1))
+    → d ≡ each (λ j. getD new j 0)
+    → after ≡ changedBy c old d p q
+    → t ≡ setOn g (g .n + 1) i w (after .q) s
+    → u ≡ setOn g (g .n) i w (after .p) t
+    → v ≡ setOn g disk i w d u
+    → ColumnsMapped g i w (λ j col. writeColumn reedSolomon (g .n) disk (getD new j 0) col) s v
+unfolding reedSolomon
+written-is {g} {disk} {i} {w} {c} new {s} {d = d} {after = after} h known is-c is-old is-p is-q is-d is-after set-q set-p set-d =
+    let parities = set-two h (after .p) (after .q) (omega arith) (omega arith) set-q set-p in
+    columns-as (columns-then parities (set-columns (has-same h (parities .kept)) (omega arith) d set-d))
+    (λ j l.
+    let small : j < width = omega (arith, h .held) in
+    let change = ap₂ sum (seen h (λ e. e disk) is-old j l) (at is-d j small) in
+    ap₂ (λ (x y : ℕ). put disk (getD d j 0) (put (g .n) x (put (g .n + 1) y (column g s (i + j)))))
+    (ap (λ (r : Parities). getD (r .p) j 0) is-after ∙ each-at _ j small ∙ ap₂ sum (seen h (λ e. e (g .n)) is-p j l) change)
+    (ap (λ (r : Parities). getD (r .q) j 0) is-after ∙ each-at _ j small ∙ ap₂ sum (seen h (λ e. e (g .n + 1)) is-q j l) (ap₂ product is-c change))
+    ∙ ap (λ (x : ℕ). put disk x (put (g .n) (sum (column g s (i + j) (g .n)) (sum (column g s (i + j) disk) (getD new j 0))) (put (g .n + 1) (sum (column g s (i + j) (g .n + 1)) (product (power 2 disk) (sum (column g s (i + j) disk) (getD new j 0)))) (column g s (i + j))))) (at is-d j small))
+  where
+    at : d ≡ each (λ j. getD new j 0) → (j : ℕ) → j < width → getD d j 0 ≡ getD new j 0
+    at is j l = ap (λ (x : List ℕ). getD x j 0) is ∙ each-at _ j l
 
 -- the new bytes from j to e, lent as a part, and the columns that they are written to behind the first j
 pub lent-long : (new : List ℕ) (j e : ℕ) → j ≤ e → e ≤ length new → length (take (e - j) (drop j new)) ≡ e - j

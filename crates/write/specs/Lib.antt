@@ -1,2 +1,2 @@
 pub mod Write
-pub mod Steps
+pub mod Changed

@@ -12,6 +12,8 @@ use Rattle.gf256.proofs.Laws.{sum-comm}
 use Rattle.chunk.proofs.Laws.{each-at}
 use Rattle.column.specs.Column.{Column, parityP, parityQ, reedSolomon, verdictOf}
 use Rattle.shape.specs.Layout.{column}
+use Rattle.stretch.proofs.Laws.{seen}
+use Rattle.sums.specs.declared.Sums.{Sums}
 use Rattle.verdict.proofs.Summary.{summary-as}
 use Rattle.stripe.proofs.check_chunk.Statement.{statement}
 use Rattle.stripe.proofs.check_chunk.Tie as tie
@@ -45,6 +47,7 @@ returns c =
     let here = c .before .before .before .before .before .before .before .before .before .before .before .before .before .before .before .before .before .before .before .before in
     let a = here .args in
     let n = a .g .n in
+    let h = here .pre .0 in
     let sums = c .before .before .before .before .before .before .before .before .before .before .before .before .before .before .before .before .before .parities .ensures in
     let e : ℕ → Column = λ j. column (a .g) (a .stripe .now) (a .i + j) in
     summary-as
@@ -52,12 +55,12 @@ returns c =
     (λ j p.
     ap₂ (verdictOf n)
     (ap (λ (l : List ℕ). getD l j 0) (c .before .before .before .before .before .before .before .before .before .before .before .add .ensures)
-    ∙ each-at _ j (omega (arith, here .pre .2))
-    ∙ ap₂ sum (sums .first j (omega (arith, here .pre .2))) (c .before .before .before .before .before .before .before .before .before .before .before .before .before .before .load .ensures j (omega (arith, here .pre .2)))
+    ∙ each-at _ j (omega (arith, here .pre .1))
+    ∙ ap₂ sum (seen h (parityP n) (ap (λ (r : Sums). r .p) sums) j (omega (arith, here .pre .1))) (seen h (λ e. e n) (c .before .before .before .before .before .before .before .before .before .before .before .before .before .before .load .ensures) j (omega (arith, here .pre .1)))
     ∙ sum-comm (parityP n (e j)) (e j n))
     (ap (λ (l : List ℕ). getD l j 0) (c .before .before .before .before .before .before .add2 .ensures)
-    ∙ each-at _ j (omega (arith, here .pre .2))
-    ∙ ap₂ sum (sums .second j (omega (arith, here .pre .2))) (c .before .before .before .before .before .before .before .before .before .load2 .ensures j (omega (arith, here .pre .2)))
+    ∙ each-at _ j (omega (arith, here .pre .1))
+    ∙ ap₂ sum (seen h (parityQ reedSolomon n) (ap (λ (r : Sums). r .q) sums) j (omega (arith, here .pre .1))) (seen h (λ e. e (n + 1)) (c .before .before .before .before .before .before .before .before .before .load2 .ensures) j (omega (arith, here .pre .1)))
     ∙ sum-comm (parityQ reedSolomon n (e j)) (e j (n + 1)))))
     (c .before .before .verdicts-of .ensures)
 

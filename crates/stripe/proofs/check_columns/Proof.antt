@@ -52,7 +52,7 @@ check-chunk-requires : tie.Need-check-chunk-requires Inv-loop μ-loop
 check-chunk-requires c κs =
     let l = c .before .before .before .loop in
     let size = long (l .room) (l .i) (l .i + width) (omega arith) (omega (arith, l .inv .1 .filled .long)) in
-    (c .before .before .before .before .before .before .pre .0, omega arith, omega (arith, size))
+    (record { shaped = c .before .before .before .before .before .before .pre .0; fits = omega arith; held = omega arith }, omega (arith, size))
 
 joined-requires : tie.Need-joined-requires Inv-loop μ-loop
 joined-requires c κs = search needs
@@ -86,7 +86,7 @@ check-part-requires : tie.Need-check-part-requires Inv-loop μ-loop
 check-part-requires c κs =
     let l = c .before .before .before .before .before .loop in
     let size = long (l .room) (l .i) (length (l .room)) (omega (arith, l .inv .1 .filled .long)) (omega arith) in
-    (c .before .before .before .before .before .before .before .before .pre .0, omega (arith, size, l .inv .1 .filled .long), omega (arith, size, l .inv .1 .filled .long))
+    record { shaped = c .before .before .before .before .before .before .before .before .pre .0; fits = omega (arith, size, l .inv .1 .filled .long); held = omega (arith, size, l .inv .1 .filled .long) }
 
 joined-requires-2 : tie.Need-joined-requires-2 Inv-loop μ-loop
 joined-requires-2 c κs = search needs

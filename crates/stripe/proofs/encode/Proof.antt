@@ -2,9 +2,12 @@
 -- Assumes nothing.
 use borrow.Author.Needs.{needs}
 use mathlib.Core.Path.{sym, _∙_}
+use mathlib.Core.Bool.{true}
 use Rattle.base.proofs.Refused.{leaves-alone, leaves-done}
+use Rattle.losses.specs.declared.Plan.the-variants.{FromData}
 use Rattle.shape.specs.Refusals.{WellShaped}
 use Rattle.shape.proofs.Refused.{well-shaped}
+use Rattle.restore.proofs.Laws.{restored-is}
 use Rattle.stripe.specs.Stripe.{encoded}
 use Rattle.stripe.specs.Calls.{afterEncode}
 use Rattle.stripe.proofs.encode.Statement.{statement}
@@ -25,7 +28,7 @@ returns c =
     record { result = refused; stripe = leaves-alone (encoded (a .g) (a .stripe .now)) (a .stripe .now) refused (c .if1 .taken) }
 
 restore-requires : tie.Need-restore-requires
-restore-requires c κs = (accepted (c .before), tt)
+restore-requires c κs = search needs
 
 same-length : tie.Need-same-length
 same-length c = c .before .before .restore .kept .1 .0
@@ -38,7 +41,7 @@ returns-2 c =
     let done = c .before .before .before .before .if1 .left in
     record {
       result = sym done ∙ refused;
-      stripe = leaves-done (encoded (a .g) (a .stripe .now)) (a .stripe .now) refused done (c .before .before .restore .ensures);
+      stripe = leaves-done (encoded (a .g) (a .stripe .now)) (a .stripe .now) refused done (c .before .before .restore .ensures ∙ restored-is (a .g) (FromData true) (a .stripe .now) (accepted (c .before .before .before .before)) tt);
     }
 
 pub encode-spec : {M : Type 1} → statement M

@@ -1,7 +1,7 @@
 -- `stripe::rebuild` meets its contract: its refusal, then the plan of the loss, which is the table's row.
 -- Assumes nothing.
 use borrow.Author.Needs.{needs}
-use mathlib.Core.Path.{_≡_, sym, ap, subst, _∙_}
+use mathlib.Core.Path.{_≡_, sym, ap, _∙_}
 use Prim.Native.Nat.{ℕ}
 use native.Mathlib.Nat.{mod-eq-of-lt}
 use native.Mathlib.Omega.{arith}
@@ -9,13 +9,14 @@ use lib.ListN.{length}
 use Rattle.base.proofs.Refused.{leaves-alone, leaves-done}
 use Rattle.column.specs.Loss.{KnownLoss}
 use Rattle.losses.specs.declared.Plan.{Plan}
-use Rattle.losses.specs.Losses.{planOf, restoredBy, KnownPlan}
+use Rattle.losses.specs.Losses.{planOf}
 use Rattle.losses.proofs.Planned.{planned, plan-known}
-use Rattle.shape.specs.Layout.{lift}
 use Rattle.shape.specs.Refusals.{WellShaped}
 use Rattle.shape.proofs.Places.{lift-same}
 use Rattle.shape.proofs.Refused.{well-shaped}
 use Rattle.devices.proofs.Refused.{rebuild-accepted}
+use Rattle.restore.specs.Restore.{restored}
+use Rattle.restore.proofs.Laws.{restored-is}
 use Rattle.stripe.specs.Stripe.{rebuilt}
 use Rattle.stripe.specs.Calls.{afterRebuild}
 use Rattle.stripe.proofs.rebuild.Statement.{statement}
@@ -48,10 +49,7 @@ plan-of-requires : tie.Need-plan-of-requires
 plan-of-requires c κs = search needs
 
 restore-requires : tie.Need-restore-requires
-restore-requires c κs =
-    let a = c .before .before .before .before .before .args in
-    let ask = accepted (c .before .before) in
-    (ask .0, subst (KnownPlan (a .g .n)) (sym (plan c)) (plan-known (a .g .n) (a .lost) (ask .1)))
+restore-requires c κs = search needs
 
 same-length : tie.Need-same-length
 same-length c = c .before .before .restore .kept .1 .0
@@ -68,7 +66,8 @@ returns-2 c =
       stripe =
           leaves-done (rebuilt (a .g) (a .lost) (a .stripe .now)) (a .stripe .now) refused done
           (c .before .before .restore .ensures
-          ∙ ap (λ (p : Plan). lift (a .g) (λ i e. restoredBy (a .g .n) p e) (a .stripe .now)) (plan (c .before .before .before))
+          ∙ ap (λ (p : Plan). restored (a .g) p (a .stripe .now)) (plan (c .before .before .before))
+          ∙ restored-is (a .g) (planOf (a .g .n) (a .lost)) (a .stripe .now) (ask .0) (plan-known (a .g .n) (a .lost) (ask .1))
           ∙ lift-same (a .g) (a .stripe .now) (planned (a .g .n) (a .lost) (ask .1)));
     }
 

@@ -9,7 +9,7 @@ use Rattle.base.proofs.Table.{getD-tabulate, tabulate-same}
 use Rattle.gf256.specs.Field.{sum, product}
 use Rattle.chunk.specs.Chunk.{width, plus, plusProduct}
 use Rattle.write.specs.declared.Parities.{Parities}
-use Rattle.write.specs.Steps.{changedBy}
+use Rattle.write.specs.Changed.{changedBy}
 use Rattle.write.proofs.changed.Statement.{statement}
 use Rattle.write.proofs.changed.Tie as tie
 

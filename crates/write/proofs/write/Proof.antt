@@ -2,12 +2,11 @@
 -- Assumes nothing.
 use borrow.Author.Needs.{needs}
 use mathlib.Core.Path.{sym, _∙_}
-use Prim.Native.Nat.{_<_}
+use Prim.Native.Nat.{_+_, _≤_, _<_}
 use native.Mathlib.Omega.{arith}
 use lib.ListN.{length}
 use Rattle.base.proofs.Refused.{leaves-alone, leaves-done}
 use Rattle.shape.specs.Refusals.{WellShaped}
-use Rattle.shape.specs.Columns.{Stretch}
 use Rattle.shape.proofs.Refused.{well-shaped, write-accepted}
 use Rattle.write.specs.Write.{written, afterWrite}
 use Rattle.write.proofs.Written.{stretch-lift}
@@ -16,11 +15,11 @@ use Rattle.write.proofs.write.Tie as tie
 
 -- what the refusal tells where it is 0
 accepted : (c : tie.Else1)
-    → let a = c .before .before .before .before .args in WellShaped (a .g) (a .stripe .now) × Stretch (a .g) (a .disk) (a .offset) (length (a .new .now)) × (a .disk < a .g .n)
+    → let a = c .before .before .before .before .args in WellShaped (a .g) (a .stripe .now) × (a .offset + length (a .new .now) ≤ a .g .b) × (a .disk < a .g .n)
 accepted c =
     let a = c .before .before .before .before .args in
     let told = write-accepted (a .g) (length (a .stripe .now)) (a .disk) (a .offset) (length (a .new .now)) (sym (c .before .write-refusal .ensures) ∙ c .if1 .left) in
-    (well-shaped (a .g) (a .stripe .now) (told .0), record { known = omega (arith, told .1); fits = omega arith }, told .1)
+    (well-shaped (a .g) (a .stripe .now) (told .0), omega (arith, told .1), told .1)
 
 write-refusal-requires : tie.Need-write-refusal-requires
 write-refusal-requires c κs = search needs
@@ -49,7 +48,7 @@ returns-2 c =
       result = sym done ∙ refused;
       stripe =
           leaves-done (written (a .g) (a .disk) (a .offset) (a .new .now) (a .stripe .now)) (a .stripe .now) refused done
-          (stretch-lift (ask .0) (ask .1 .fits) (c .before .before .write-all .ensures));
+          (stretch-lift (ask .0) (ask .1) (c .before .before .write-all .ensures));
     }
 
 pub write-spec : {M : Type 1} → statement M

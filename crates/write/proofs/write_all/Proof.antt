@@ -32,7 +32,7 @@ sub-loop : tie.Need-sub-loop Inv-loop μ-loop
 sub-loop c = omega arith
 
 add-write-chunk : tie.Need-add-write-chunk Inv-loop μ-loop
-add-write-chunk c = omega (arith, c .before .before .before .before .before .before .pre .1 .fits, c .before .before .before .before .before .before .pre .0 .block)
+add-write-chunk c = omega (arith, c .before .before .before .before .before .before .pre .1, c .before .before .before .before .before .before .pre .0 .block)
 
 add-write-chunk-2 : tie.Need-add-write-chunk-2 Inv-loop μ-loop
 add-write-chunk-2 c = omega arith
@@ -52,7 +52,7 @@ write-chunk-requires c κs =
     let a = here .args in
     let l = c .before .before .before .loop in
     let size = lent-long (a .new .now) (l .j) (l .j + width) (omega arith) (omega arith) in
-    (shaped-same (here .pre .0) (l .inv .2 .kept), record { known = here .pre .1 .known; fits = omega (arith, size, here .pre .1 .fits) }, here .pre .2, l .inv .1, omega (arith, size))
+    (record { shaped = shaped-same (here .pre .0) (l .inv .2 .kept); fits = omega (arith, size, here .pre .1); held = omega (arith, size) }, here .pre .2, l .inv .1, omega (arith, size))
 
 add-j : tie.Need-add-j Inv-loop μ-loop
 add-j c = omega arith
@@ -65,10 +65,10 @@ loop-again c =
     let here = c .before .before .before .before .before .before .before .before .before .before in
     let a = here .args in
     let l = c .before .before .before .before .before .before .loop in
-    (omega arith, l .inv .1, columns-count (omega arith) (written-more (a .g) (a .disk) (a .offset) (a .new .now) (l .j + width) (omega arith) (omega arith) (here .pre .1 .fits) (l .inv .2) (c .before .before .write-chunk .ensures)))
+    (omega arith, l .inv .1, columns-count (omega arith) (written-more (a .g) (a .disk) (a .offset) (a .new .now) (l .j + width) (omega arith) (omega arith) (here .pre .1) (l .inv .2) (c .before .before .write-chunk .ensures)))
 
 add-write-part : tie.Need-add-write-part Inv-loop μ-loop
-add-write-part c = omega (arith, c .before .before .before .before .before .before .before .pre .1 .fits, c .before .before .before .before .before .before .before .pre .0 .block)
+add-write-part c = omega (arith, c .before .before .before .before .before .before .before .pre .1, c .before .before .before .before .before .before .before .pre .0 .block)
 
 sub-write-part : tie.Need-sub-write-part Inv-loop μ-loop
 sub-write-part c = omega arith
@@ -85,7 +85,7 @@ write-part-requires c κs =
     let a = here .args in
     let l = c .before .before .before .before .loop in
     let size = lent-long (a .new .now) (l .j) (length (a .new .now)) (omega arith) (omega arith) in
-    (shaped-same (here .pre .0) (l .inv .2 .kept), record { known = here .pre .1 .known; fits = omega (arith, size, here .pre .1 .fits) }, here .pre .2, l .inv .1, omega (arith, size))
+    (record { shaped = shaped-same (here .pre .0) (l .inv .2 .kept); fits = omega (arith, size, here .pre .1); held = omega (arith, size) }, here .pre .2, l .inv .1)
 
 same-length : tie.Need-same-length Inv-loop μ-loop
 same-length c = c .before .before .write-part .ensures .kept ∙ c .before .before .before .before .before .before .before .loop .inv .2 .kept
@@ -94,7 +94,7 @@ returns : tie.Need-returns Inv-loop μ-loop
 returns c =
     let here = c .before .before .before .before .before .before .before .before .before .before .before in
     let a = here .args in
-    written-more (a .g) (a .disk) (a .offset) (a .new .now) (length (a .new .now)) (omega arith) (omega arith) (here .pre .1 .fits) (c .before .before .before .before .before .before .before .loop .inv .2) (c .before .before .write-part .ensures)
+    written-more (a .g) (a .disk) (a .offset) (a .new .now) (length (a .new .now)) (omega arith) (omega arith) (here .pre .1) (c .before .before .before .before .before .before .before .loop .inv .2) (c .before .before .write-part .ensures)
 
 same-length-2 : tie.Need-same-length-2 Inv-loop μ-loop
 same-length-2 c = c .before .before .loop .inv .2 .kept

@@ -1,0 +1,73 @@
+-- `restore::restore_columns` meets its contract. The loop's invariant: the first `done` columns are restored. The measure is what is left.
+-- Assumes nothing.
+use borrow.Author.Needs.{needs}
+use Prim.Native.Nat.{_-_, _≤_}
+use native.Mathlib.Omega.{arith}
+use Rattle.losses.specs.Losses.{restoredBy}
+use Rattle.losses.proofs.Again.{restored-again}
+use Rattle.shape.specs.Columns.{ColumnsMapped}
+use Rattle.shape.proofs.Columns.{shaped-same, columns-none, columns-count, columns-again, columns-all}
+use Rattle.restore.proofs.restore_columns.Statement.{statement}
+use Rattle.restore.proofs.restore_columns.Tie as tie
+
+abbrev Inv-loop : tie.InvT-loop
+Inv-loop g stripe₀ plan done₀ stripe done = (done ≤ g .b) × ColumnsMapped g 0 done (λ j c. restoredBy (g .n) plan c) stripe₀ stripe
+
+abbrev μ-loop : tie.MeasureT-loop
+μ-loop g stripe₀ plan done₀ stripe done = g .b - done
+
+restore-part-requires : tie.Need-restore-part-requires Inv-loop μ-loop
+restore-part-requires c κs = search needs
+
+same-length : tie.Need-same-length Inv-loop μ-loop
+same-length c = c .before .before .restore-part .kept .1 .0
+
+returns : tie.Need-returns Inv-loop μ-loop
+returns c = search needs
+
+loop-holds : tie.Need-loop-holds Inv-loop μ-loop
+loop-holds c = (omega arith, columns-none)
+
+next-chunk-requires : tie.Need-next-chunk-requires Inv-loop μ-loop
+next-chunk-requires c κs = search needs
+
+restore-chunk-requires : tie.Need-restore-chunk-requires Inv-loop μ-loop
+restore-chunk-requires c κs = let pre = c .before .before .before .before .before .before .before .before .pre in (record { shaped = shaped-same (pre .0) (c .before .before .before .before .loop .inv .1 .kept); fits = c .before .next-chunk .ensures .1; held = omega arith }, pre .1)
+
+add-done : tie.Need-add-done Inv-loop μ-loop
+add-done c = omega (arith, c .before .before .before .before .next-chunk .ensures .1, c .before .before .before .before .before .before .before .before .before .before .before .pre .0 .block)
+
+loop-less : tie.Need-loop-less Inv-loop μ-loop
+loop-less c = let on = c .before .before .before .before .next-chunk .ensures .2 (omega arith) in omega arith
+
+loop-again : tie.Need-loop-again Inv-loop μ-loop
+loop-again c =
+    let a = c .before .before .before .before .before .before .before .before .before .before .before .args in
+    let l = c .before .before .before .before .before .before .before .loop in
+    let chunk = c .before .before .before .before .next-chunk .ensures in
+    let on = chunk .2 (omega arith) in
+    (chunk .1, columns-again (omega arith) (chunk .0) (omega arith) (chunk .1) (restored-again (a .g .n) (a .plan)) (l .inv .1) (c .before .before .restore-chunk .ensures))
+
+same-length-2 : tie.Need-same-length-2 Inv-loop μ-loop
+same-length-2 c = c .before .before .loop .inv .1 .kept
+
+returns-2 : tie.Need-returns-2 Inv-loop μ-loop
+returns-2 c = let l = c .before .before .loop in columns-all (c .before .before .before .before .before .before .pre .0) (columns-count (omega (arith, l .inv .0)) (l .inv .1))
+
+pub restore-columns-spec : {M : Type 1} → statement M
+restore-columns-spec =
+    tie.close
+    (tie.spec
+    Inv-loop
+    μ-loop
+    restore-part-requires
+    same-length
+    returns
+    loop-holds
+    next-chunk-requires
+    restore-chunk-requires
+    add-done
+    loop-less
+    loop-again
+    same-length-2
+    returns-2)

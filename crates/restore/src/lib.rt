@@ -1,0 +1,190 @@
+// What was lost, restored by a plan: in each column the bytes of the lost roles from the others. The
+// columns are worked on in chunks.
+use chunk::WIDTH;
+use gf256::Element;
+use losses::Plan;
+use losses::Rule;
+use shape::Geometry;
+use sums::Sums;
+ghost use mathlib.Core.Path.{_≡_};
+ghost use Prim.Native.Nat.{_+_, _≤_, _<_};
+ghost use Rattle.chunk.specs.Chunk.{width};
+ghost use Rattle.losses.specs.Losses.{without, restoredBy, solved, KnownPlan};
+ghost use Rattle.shape.specs.Layout.{lift};
+ghost use Rattle.shape.specs.Refusals.{WellShaped};
+ghost use Rattle.shape.specs.Columns.{ColumnsMapped};
+ghost use Rattle.stretch.specs.Stretch.{Has, columnOf};
+ghost use Rattle.sums.specs.Sums.{sumsOf};
+ghost use Rattle.restore.specs.Restore.{knownPlan, restored};
+
+// Restores a stripe. What is no stripe, or has not the roles of the plan, stays as it is.
+pub fn restore(g: Geometry, stripe: &mut [u8], plan: Plan)
+    ensures { λ _. ⌜ now (stripe .exit) ≡ restored g plan (now (stripe .entry)) ⌝ }
+{
+    if shape::encode_refusal(g, stripe.len()) != 0 {
+        return;
+    }
+    if !has_roles(g.n, plan) {
+        return;
+    }
+    restore_columns(g, stripe, plan);
+}
+
+fn has_roles(n: usize, plan: Plan) -> bool
+    ensures { λ r. ⌜ r ≡ knownPlan n plan ⌝ }
+{
+    match plan {
+        Plan::ByP(x) => stretch::has_role(n, x),
+        Plan::FromData(_) => true,
+        Plan::ByBoth(x, y, _) => stretch::has_role(n, x) && stretch::has_role(n, y),
+    }
+}
+
+// By whole chunks, of which the last may take columns again: what was lost comes out the same.
+fn restore_columns(g: Geometry, stripe: &mut [u8], plan: Plan)
+    requires { ⌜ WellShaped g (now stripe) × KnownPlan (g .n) plan ⌝ }
+    ensures { λ _. ⌜ now (stripe .exit) ≡ lift g (λ i c. restoredBy (g .n) plan c) (now (stripe .entry)) ⌝ }
+{
+    if g.b < WIDTH {
+        restore_part(g, stripe, plan);
+        return;
+    }
+    let mut done = 0;
+    while done < g.b {
+        let i = next_chunk(g.b, done);
+        restore_chunk(g, stripe, i, plan);
+        done = i + WIDTH;
+    }
+}
+
+fn next_chunk(b: usize, done: usize) -> usize
+    requires { ⌜ (width ≤ b) × (done ≤ b) ⌝ }
+    ensures { λ r. ⌜ (r ≤ done) × (r + width ≤ b) × (done < b → done < r + width) ⌝ }
+{
+    if b - WIDTH < done { b - WIDTH } else { done }
+}
+
+fn restore_chunk(g: Geometry, stripe: &mut [u8], i: usize, plan: Plan)
+    requires { ⌜ Has g (now stripe) i width × KnownPlan (g .n) plan ⌝ }
+    ensures { λ _. ⌜ ColumnsMapped g i width (λ j c. restoredBy (g .n) plan c) (now (stripe .entry)) (now (stripe .exit)) ⌝ }
+{
+    match plan {
+        Plan::ByP(x) => restore_by_p(g, stripe, i, x),
+        Plan::FromData(both) => restore_from_data(g, stripe, i, both),
+        Plan::ByBoth(x, y, rule) => restore_by_both(g, stripe, i, x, y, rule),
+    }
+}
+
+fn restore_by_p(g: Geometry, stripe: &mut [u8], i: usize, x: usize)
+    requires { ⌜ Has g (now stripe) i width × (x < g .n + 2) ⌝ }
+    ensures { λ _. ⌜ ColumnsMapped g i width (λ j c. restoredBy (g .n) (Plan.ByP x) c) (now (stripe .entry)) (now (stripe .exit)) ⌝ }
+{
+    let p = sums::sum_without(g, stripe, i, WIDTH, x);
+    stretch::set(g, stripe, x, i, WIDTH, p);
+}
+
+fn restore_from_data(g: Geometry, stripe: &mut [u8], i: usize, both: bool)
+    requires { ⌜ Has g (now stripe) i width ⌝ }
+    ensures { λ _. ⌜ ColumnsMapped g i width (λ j c. restoredBy (g .n) (Plan.FromData both) c) (now (stripe .entry)) (now (stripe .exit)) ⌝ }
+{
+    let s = sums::parities(g, stripe, i);
+    let p = s.p;
+    let q = s.q;
+    stretch::set(g, stripe, g.n + 1, i, WIDTH, q);
+    if both {
+        stretch::set(g, stripe, g.n, i, WIDTH, p);
+    }
+}
+
+fn restore_by_both(g: Geometry, stripe: &mut [u8], i: usize, x: usize, y: usize, rule: Rule)
+    requires { ⌜ Has g (now stripe) i width × (x < g .n + 2) × (y < g .n + 2) ⌝ }
+    ensures { λ _. ⌜ ColumnsMapped g i width (λ j c. solved (g .n) x y rule c) (now (stripe .entry)) (now (stripe .exit)) ⌝ }
+{
+    let s = sums::survivors(g, stripe, i, x, y);
+    match rule {
+        Rule::Mixed(a, b) => set_mixed(g, stripe, i, x, y, a, b, s),
+        Rule::Carried(c) => set_carried(g, stripe, i, x, y, c, s),
+    }
+}
+
+// The first is a p + b q, the second what is left of p.
+fn set_mixed(
+    g: Geometry,
+    stripe: &mut [u8],
+    i: usize,
+    x: usize,
+    y: usize,
+    a: Element,
+    b: Element,
+    s: Sums,
+)
+    requires { ⌜ Has g (now stripe) i width × (x < g .n + 2) × (y < g .n + 2) × (s ≡ sumsOf (g .n) (λ j. without x y (columnOf g (now stripe) i width j))) ⌝ }
+    ensures { λ _. ⌜ ColumnsMapped g i width (λ j c. solved (g .n) x y (Rule.Mixed a b) c) (now (stripe .entry)) (now (stripe .exit)) ⌝ }
+{
+    let mut p = s.p;
+    let q = s.q;
+    let first = chunk::combine(a, p, b, q);
+    chunk::add(&mut p, &first);
+    stretch::set(g, stripe, y, i, WIDTH, p);
+    stretch::set(g, stripe, x, i, WIDTH, first);
+}
+
+// The first is p, the second q + c p.
+fn set_carried(g: Geometry, stripe: &mut [u8], i: usize, x: usize, y: usize, c: Element, s: Sums)
+    requires { ⌜ Has g (now stripe) i width × (x < g .n + 2) × (y < g .n + 2) × (s ≡ sumsOf (g .n) (λ j. without x y (columnOf g (now stripe) i width j))) ⌝ }
+    ensures { λ _. ⌜ ColumnsMapped g i width (λ j c′. solved (g .n) x y (Rule.Carried c) c′) (now (stripe .entry)) (now (stripe .exit)) ⌝ }
+{
+    let p = s.p;
+    let mut q = s.q;
+    chunk::add_product(&mut q, c, p);
+    stretch::set(g, stripe, y, i, WIDTH, q);
+    stretch::set(g, stripe, x, i, WIDTH, p);
+}
+
+// ---- the same for a block below a chunk
+
+fn restore_part(g: Geometry, stripe: &mut [u8], plan: Plan)
+    requires { ⌜ Has g (now stripe) 0 (g .b) × KnownPlan (g .n) plan ⌝ }
+    ensures { λ _. ⌜ now (stripe .exit) ≡ lift g (λ i c. restoredBy (g .n) plan c) (now (stripe .entry)) ⌝ }
+{
+    match plan {
+        Plan::ByP(x) => part_by_p(g, stripe, x),
+        Plan::FromData(both) => part_from_data(g, stripe, both),
+        Plan::ByBoth(x, y, rule) => part_by_both(g, stripe, x, y, rule),
+    }
+}
+
+fn part_by_p(g: Geometry, stripe: &mut [u8], x: usize)
+    requires { ⌜ Has g (now stripe) 0 (g .b) × (x < g .n + 2) ⌝ }
+    ensures { λ _. ⌜ now (stripe .exit) ≡ lift g (λ i c. restoredBy (g .n) (Plan.ByP x) c) (now (stripe .entry)) ⌝ }
+{
+    let p = sums::sum_without(g, stripe, 0, g.b, x);
+    stretch::set(g, stripe, x, 0, g.b, p);
+}
+
+fn part_from_data(g: Geometry, stripe: &mut [u8], both: bool)
+    requires { ⌜ Has g (now stripe) 0 (g .b) ⌝ }
+    ensures { λ _. ⌜ now (stripe .exit) ≡ lift g (λ i c. restoredBy (g .n) (Plan.FromData both) c) (now (stripe .entry)) ⌝ }
+{
+    let s = sums::part_survivors(g, stripe, 0, g.b, g.n, g.n + 1);
+    let p = s.p;
+    let q = s.q;
+    stretch::set(g, stripe, g.n + 1, 0, g.b, q);
+    if both {
+        stretch::set(g, stripe, g.n, 0, g.b, p);
+    }
+}
+
+fn part_by_both(g: Geometry, stripe: &mut [u8], x: usize, y: usize, rule: Rule)
+    requires { ⌜ Has g (now stripe) 0 (g .b) × (x < g .n + 2) × (y < g .n + 2) ⌝ }
+    ensures { λ _. ⌜ now (stripe .exit) ≡ lift g (λ i c. solved (g .n) x y rule c) (now (stripe .entry)) ⌝ }
+{
+    let s = sums::part_survivors(g, stripe, 0, g.b, x, y);
+    let p = s.p;
+    let q = s.q;
+    let new = losses::solve(rule, p, q);
+    let first = new.first;
+    let second = new.second;
+    stretch::set(g, stripe, y, 0, g.b, second);
+    stretch::set(g, stripe, x, 0, g.b, first);
+}

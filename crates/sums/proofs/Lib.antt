@@ -1,0 +1,2 @@
+mod Horner
+mod Zeros
