@@ -25,9 +25,6 @@ module _ {g : Geometry} {i : ℕ} where
   pub columns-none : {s : List ℕ} {f : ℕ → Column → Column} → ColumnsMapped g i 0 f s s
   columns-none = record { kept = refl; within = λ j p. absurd (not-suc-le-zero p); outside = λ c p q. refl }
 
-  pub columns-idle : {w : ℕ} (s : List ℕ) {f : ℕ → Column → Column} → ((j : ℕ) → j < w → f j (column g s (i + j)) ≡ column g s (i + j)) → ColumnsMapped g i w f s s
-  columns-idle s same = record { kept = refl; within = λ j p. sym (same j p); outside = λ c p q. refl }
-
   pub columns-count : {w v : ℕ} {s t : List ℕ} {f : ℕ → Column → Column} → w ≡ v → ColumnsMapped g i w f s t → ColumnsMapped g i v f s t
   columns-count {s = s} {t = t} {f = f} same step = subst (λ (k : ℕ). ColumnsMapped g i k f s t) same step
 

@@ -1,18 +1,16 @@
--- Where the symbols of a stripe stand in its buffer: the one law of `lift`, and what a store at a place does to the columns.
+-- Where the symbols of a stripe stand in its buffer, and the one law of `lift`.
 -- Assumes nothing.
 use mathlib.Core.Path.{_≡_, refl, sym, ap, ap₂, subst, fun-ext, _∙_}
-use mathlib.Core.Logic.{_≢_}
 use mathlib.Core.List.{List}
 use Prim.Native.Nat.{ℕ, suc, _+_, _/_, _%_, _≤_, _<_}
 use native.Mathlib.Nat.{div-add-mod', mod-lt, mod-eq-of-lt, div-lt-iff-lt-mul, suc-mul, mul-le-mul-right}
 use lib.Arith.{digits-div, digits-mod, digits-lt}
-use lib.ListN.{length, getD, set}
-use lib.Seq.{ext-getD, getD-set-same, getD-set-other}
+use lib.ListN.{length, getD}
+use lib.Seq.{ext-getD}
 use Rattle.shape.specs.declared.Geometry.{Geometry}
 use Rattle.base.proofs.Table.{length-tabulate, getD-tabulate}
-use Rattle.column.specs.Column.{Column, put}
+use Rattle.column.specs.Column.{Column}
 use Rattle.shape.specs.Layout.{start, lowStart, size, column, roleAt, columnAt, lift}
-use Rattle.column.proofs.Put.{by-role, put-same, put-other}
 
 -- ---- places
 module _ (g : Geometry) {i : ℕ} (hi : i < g .b) where
@@ -45,23 +43,6 @@ start-mono g h = mul-le-mul-right (g .b) h
 pub start-end : (g : Geometry) → start g (g .n + 2) ≡ size g
 unfolding start
 start-end g = refl
-
--- ---- a store at a place changes one symbol of one column
-module _ (g : Geometry) (s : List ℕ) (v d : ℕ) {i : ℕ} (hi : i < g .b) where
-  pub stored-here : length s ≡ size g → d < g .n + 2 → column g (set s (start g d + i) v) i ≡ put d v (column g s i)
-  stored-here len hd =
-      by-role d
-      (getD-set-same s (start g d + i) v 0 (subst (λ (n : ℕ). start g d + i < n) (sym len) (within g hi hd))
-      ∙ sym (put-same d v (column g s i)))
-      (λ r h.
-      getD-set-other s (start g d + i) (start g r + i) v 0 (λ e. h (sym (role-at g hi r) ∙ ap (roleAt g) e ∙ role-at g hi d))
-      ∙ sym (put-other d v (column g s i) r h))
-
-  pub stored-elsewhere : {j : ℕ} → j < g .b → j ≢ i → column g (set s (start g d + i) v) j ≡ column g s j
-  stored-elsewhere {j} hj h =
-      fun-ext λ r.
-      getD-set-other s (start g d + i) (start g r + j) v 0
-      (λ e. h (sym (column-at g hj r) ∙ ap (columnAt g) e ∙ column-at g hi d))
 
 -- the length of a lifted stripe, and what stands at each place of it
 pub length-lift : (g : Geometry) (f : ℕ → Column → Column) (s : List ℕ) → length (lift g f s) ≡ length s

@@ -5,7 +5,7 @@ use mathlib.Core.Logic.{_≢_, _⊎_, ⊎-elim}
 use mathlib.Core.List.{List}
 use Prim.Native.Nat.{ℕ, suc, _+_, _-_, _≤_, _<_}
 use native.Mathlib.Omega.{arith}
-use lib.ListN.{length, getD, take, drop, length-take, length-drop}
+use lib.ListN.{length, getD, take, drop}
 use lib.Seq.{getD-take, getD-drop}
 use Rattle.base.specs.Table.{spliced}
 use Rattle.base.proofs.Choice.{below-or-not}
@@ -70,6 +70,3 @@ module _ (g : Geometry) (s : List ℕ) (role i w : ℕ) {at : ℕ} (is : at ≡ 
       getD-take (at + i + w - (at + i)) (drop (at + i) s) j 0 (omega arith)
       ∙ getD-drop (at + i) s j 0
       ∙ ap (λ (p : ℕ). getD s p 0) (omega arith)
-
-  pub part-length : at + i + w ≤ length s → length (take (at + i + w - (at + i)) (drop (at + i) s)) ≡ w
-  part-length fits = simp (length-take, length-drop) (omega arith)

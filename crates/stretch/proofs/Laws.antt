@@ -7,7 +7,7 @@ use mathlib.Core.List.{List, _++_}
 use Prim.Native.Nat.{ℕ, _+_, _-_, _≤_, _<_}
 use native.Mathlib.Nat.{min-le-left}
 use native.Mathlib.Omega.{arith}
-use borrow.Author.Tests.{eqb-true, leb-true, lt-ltb, le-ltb, le-leb}
+use borrow.Author.Tests.{eqb-true, leb-true, ltb-true, ltb-false, lt-ltb, le-ltb, le-leb}
 use lib.Dec.{eqb, ltb, leb}
 use lib.ListN.{length, getD, take, drop, replicate, length-take, length-drop, List·getD-eq-default}
 use lib.Seq.{getD-take, getD-drop}
@@ -16,7 +16,7 @@ use Rattle.base.specs.Table.{tabulate, spliced}
 use Rattle.base.proofs.Choice.{both-true, below-or-not}
 use Rattle.base.proofs.Table.{length-tabulate, getD-tabulate, tabulate-same}
 use Rattle.chunk.specs.Chunk.{width, each, stored, Holds}
-use Rattle.chunk.proofs.Laws.{each-at}
+use Rattle.chunk.proofs.Laws.{each-at, stored-short}
 use Rattle.column.specs.Column.{Column, put}
 use Rattle.shape.specs.declared.Geometry.{Geometry}
 use Rattle.shape.specs.Layout.{start, lowStart, column}
@@ -27,7 +27,7 @@ use Rattle.shape.proofs.Refused.{well-shaped}
 use Rattle.shape.proofs.Columns.{shaped-same, columns-as, columns-count, columns-then}
 use Rattle.shape.proofs.Places.{start-mono, start-end}
 use Rattle.shape.proofs.Stretch.{block-start, stretch-inside, columns-set}
-use Rattle.stretch.specs.Stretch.{hasColumns, Has, columnOf, setOn}
+use Rattle.stretch.specs.Stretch.{hasColumns, Has, columnOf, hasStretch, setOn}
 
 -- ---- a part of a list that is lent from a place on
 module _ (s : List ℕ) (at w : ℕ) (ends : at + w ≤ length s) where
@@ -52,8 +52,8 @@ module _ (s : List ℕ) (at w : ℕ) (ends : at + w ≤ length s) where
       ap₂ (λ (x y : List ℕ). take at s ++ (x ++ y))
       (is
       ∙ ap (λ (k : ℕ). stored (take k (drop at s)) new) part
-      ∙ ap (λ (k : ℕ). tabulate k (λ j. choose (ltb j width) (getD new j 0) (getD (take w (drop at s)) j 0))) part-length
-      ∙ tabulate-same w (λ j l. rw (lt-ltb j width (omega arith))))
+      ∙ stored-short (take w (drop at s)) new (omega (arith, part-length))
+      ∙ ap (λ (k : ℕ). tabulate k (λ j. getD new j 0)) part-length)
       (after ∙ ap (λ (k : ℕ). drop (at + k) s) (sym (length-tabulate w (λ j. getD new j 0))))
 
 pub zeros : replicate width 0 ≡ each (λ j. 0)
@@ -105,9 +105,12 @@ module _ {g : Geometry} {s : List ℕ} {i w : ℕ} (h : Has g s i w) where
       ap (λ (l : List ℕ). getD l j 0) is ∙ each-at (λ j. f (columnOf g s i w j)) j (omega (arith, h .held)) ∙ ap f (column-of j p)
 
   -- what stands on a role that it has not
-  pub unknown : {role : ℕ} → g .n + 2 ≤ role → replicate width 0 ≡ each (λ j. columnOf g s i w j role)
+  unknown : {role : ℕ} → g .n + 2 ≤ role → replicate width 0 ≡ each (λ j. columnOf g s i w j role)
   unfolding columnOf
   unknown {role} beyond = zeros ∙ tabulate-same width (λ j l. sym (unknown-at (both (hasColumns g (length s) i w) (ltb j w)) (i + j) beyond))
+
+  stretch-true : {role : ℕ} → role < g .n + 2 → hasStretch g (length s) role i w ≡ true
+  stretch-true {role} known = rw (has-true g s i w h, lt-ltb role (g .n + 2) known)
 
   -- a role that it has begins where `start` says, and its bytes lie in the buffer
   module _ {role : ℕ} (known : role < g .n + 2) {p : ℕ} (is : p ≡ lowStart g role) where
@@ -126,7 +129,7 @@ module _ {g : Geometry} {s : List ℕ} {i w : ℕ} (h : Has g s i w) where
     set-there new is-m after =
         part-stored s (p + i) w ends (h .held) new is-m after
         ∙ ap (λ (a : ℕ). spliced s (a + i) (tabulate w (λ j. getD new j 0))) begins
-        ∙ sym (rw (has-true g s i w h, lt-ltb role (g .n + 2) known))
+        ∙ sym (rw (stretch-true known))
 
   -- setting a role changes these columns alone
   pub set-columns : {role : ℕ} → role < g .n + 2 → (new : List ℕ) {t : List ℕ} → t ≡ setOn g role i w new s
@@ -134,7 +137,7 @@ module _ {g : Geometry} {s : List ℕ} {i w : ℕ} (h : Has g s i w) where
   set-columns {role} known new {t} is =
       let m = tabulate w (λ j. getD new j 0) in
       let long = length-tabulate w (λ j. getD new j 0) in
-      subst (λ (t : List ℕ). ColumnsMapped g i w (λ j c. put role (getD new j 0) c) s t) (sym (is ∙ rw (has-true g s i w h, lt-ltb role (g .n + 2) known)))
+      subst (λ (t : List ℕ). ColumnsMapped g i w (λ j c. put role (getD new j 0) c) s t) (sym (is ∙ rw (stretch-true known)))
       (columns-as (columns-count long (columns-set g s role i m (h .shaped) known (omega (arith, h .fits, long))))
       (λ j p. ap (λ (x : ℕ). put role x (column g s (i + j))) (getD-tabulate w (λ j. getD new j 0) j 0 p)))
 
@@ -145,3 +148,17 @@ pub set-two : {g : Geometry} {s : List ℕ} {i w x y : ℕ} (h : Has g s i w) (n
 set-two h new second known-x known-y is-t is-u =
     let first = set-columns h known-y second is-t in
     columns-then first (set-columns (has-same h (first .kept)) known-x new is-u)
+
+-- what `hasStretch` tells
+module _ (g : Geometry) (s : List ℕ) (role i w : ℕ) where
+  pub stretch : hasStretch g (length s) role i w ≡ true → Has g s i w × (role < g .n + 2)
+  stretch e =
+      let parts = both-true (hasColumns g (length s) i w) (ltb role (g .n + 2)) e in
+      (has g s i w (parts .0), ltb-true role (g .n + 2) (parts .1))
+
+  pub no-stretch : hasStretch g (length s) role i w ≡ false → replicate width 0 ≡ each (λ j. columnOf g s i w j role)
+  no-stretch = go (hasColumns g (length s) i w) refl
+    where
+      go : (t : Bool) → hasColumns g (length s) i w ≡ t → both t (ltb role (g .n + 2)) ≡ false → replicate width 0 ≡ each (λ j. columnOf g s i w j role)
+      go true e none = unknown (has g s i w e) (ltb-false role (g .n + 2) none)
+      go false e none = unseen g s i w e (λ c. c role) refl

@@ -25,7 +25,11 @@ pub record Has (g : Geometry) (s : List ℕ) (i w : ℕ) : Type 0 where
 unfoldable pub columnOf : Geometry → List ℕ → ℕ → ℕ → ℕ → Column
 columnOf g s i w j r = choose (both (hasColumns g (length s) i w) (ltb j w)) (column g s (i + j) r) 0
 
--- the first w bytes of a chunk on a role in these columns; what it was where the stripe has not that role or these columns
+-- it has these columns and the role
+abbrev pub hasStretch : Geometry → ℕ → ℕ → ℕ → ℕ → Bool
+hasStretch g len role i w = both (hasColumns g len i w) (ltb role (g .n + 2))
+
+-- the stripe with the first w bytes of a chunk on a role in these columns; what it was where it has not these
 abbrev pub setOn : Geometry → ℕ → ℕ → ℕ → List ℕ → List ℕ → List ℕ
 setOn g role i w new s =
-    choose (both (hasColumns g (length s) i w) (ltb role (g .n + 2))) (spliced s (start g role + i) (tabulate w (λ j. getD new j 0))) s
+    choose (hasStretch g (length s) role i w) (spliced s (start g role + i) (tabulate w (λ j. getD new j 0))) s

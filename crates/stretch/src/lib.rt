@@ -5,7 +5,7 @@ ghost use mathlib.Core.Path.{_≡_};
 ghost use Prim.Native.Nat.{_+_};
 ghost use lib.Dec.{ltb};
 ghost use Rattle.chunk.specs.Chunk.{each};
-ghost use Rattle.stretch.specs.Stretch.{hasColumns, columnOf, setOn};
+ghost use Rattle.stretch.specs.Stretch.{hasColumns, columnOf, hasStretch, setOn};
 
 // Whether a buffer of this length is a stripe with these columns, and a chunk can hold them.
 pub fn has_columns(g: Geometry, len: usize, i: usize, w: usize) -> bool
@@ -37,10 +37,7 @@ pub fn has_role(n: usize, role: usize) -> bool
 pub fn load(g: Geometry, stripe: &[u8], role: usize, i: usize, w: usize) -> [u8; WIDTH]
     ensures { λ r. ⌜ r ≡ each (λ j. columnOf g (now (stripe .entry)) i w j role) ⌝ }
 {
-    if !has_columns(g, stripe.len(), i, w) {
-        return [0u8; WIDTH];
-    }
-    if !has_role(g.n, role) {
+    if !has_stretch(g, stripe.len(), role, i, w) {
         return [0u8; WIDTH];
     }
     let at = g.start(role) + i;
@@ -51,12 +48,15 @@ pub fn load(g: Geometry, stripe: &[u8], role: usize, i: usize, w: usize) -> [u8;
 pub fn set(g: Geometry, stripe: &mut [u8], role: usize, i: usize, w: usize, new: [u8; WIDTH])
     ensures { λ _. ⌜ now (stripe .exit) ≡ setOn g role i w new (now (stripe .entry)) ⌝ }
 {
-    if !has_columns(g, stripe.len(), i, w) {
-        return;
-    }
-    if !has_role(g.n, role) {
+    if !has_stretch(g, stripe.len(), role, i, w) {
         return;
     }
     let at = g.start(role) + i;
     chunk::store(&mut stripe[at..at + w], new);
+}
+
+fn has_stretch(g: Geometry, len: usize, role: usize, i: usize, w: usize) -> bool
+    ensures { λ r. ⌜ r ≡ hasStretch g len role i w ⌝ }
+{
+    has_columns(g, len, i, w) && has_role(g.n, role)
 }

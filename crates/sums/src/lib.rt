@@ -5,7 +5,6 @@ use shape::Geometry;
 ghost use mathlib.Core.Path.{_≡_};
 ghost use mathlib.Core.Logic.{_⊎_};
 ghost use Prim.Native.Nat.{_≤_};
-ghost use lib.ListN.{replicate};
 ghost use Rattle.chunk.specs.Chunk.{width, each};
 ghost use Rattle.losses.specs.Losses.{without, byP};
 ghost use Rattle.stretch.specs.Stretch.{Has, columnOf};
@@ -37,11 +36,11 @@ pub fn parities(g: Geometry, stripe: &[u8], i: usize) -> Sums
 pub fn survivors(g: Geometry, stripe: &[u8], i: usize, x: usize, y: usize) -> Sums
     ensures { λ r. ⌜ r ≡ sumsOf (g .n) (λ j. without x y (columnOf g (now (stripe .entry)) i width j)) ⌝ }
 {
-    if !stretch::has_columns(g, stripe.len(), i, WIDTH) {
-        return none();
-    }
     let mut p = [0u8; WIDTH];
     let mut q = [0u8; WIDTH];
+    if !stretch::has_columns(g, stripe.len(), i, WIDTH) {
+        return Sums { p, q };
+    }
     let k = add_above(g, stripe, i, higher(x, y), g.n, &mut p, &mut q);
     let k = add_above(g, stripe, i, lower(x, y), k, &mut p, &mut q);
     add_disks(g, stripe, i, 0, k, &mut p, &mut q);
@@ -56,11 +55,11 @@ pub fn survivors(g: Geometry, stripe: &[u8], i: usize, x: usize, y: usize) -> Su
 pub fn part_survivors(g: Geometry, stripe: &[u8], i: usize, w: usize, x: usize, y: usize) -> Sums
     ensures { λ r. ⌜ r ≡ sumsOf (g .n) (λ j. without x y (columnOf g (now (stripe .entry)) i w j)) ⌝ }
 {
-    if !stretch::has_columns(g, stripe.len(), i, w) {
-        return none();
-    }
     let mut p = [0u8; WIDTH];
     let mut q = [0u8; WIDTH];
+    if !stretch::has_columns(g, stripe.len(), i, w) {
+        return Sums { p, q };
+    }
     let mut k = g.n;
     while 0 < k {
         k -= 1;
@@ -91,15 +90,6 @@ pub fn sum_without(g: Geometry, stripe: &[u8], i: usize, w: usize, x: usize) -> 
         k += 1;
     }
     p
-}
-
-fn none() -> Sums
-    ensures { λ r. ⌜ r ≡ record { p = replicate width 0; q = replicate width 0 } ⌝ }
-{
-    Sums {
-        p: [0u8; WIDTH],
-        q: [0u8; WIDTH],
-    }
 }
 
 fn higher(x: usize, y: usize) -> usize

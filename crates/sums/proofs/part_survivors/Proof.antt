@@ -27,11 +27,8 @@ tested c = let a = c .before .before .before .args in has (a .g) (a .stripe .now
 has-columns-requires : tie.Need-has-columns-requires Inv-loop μ-loop
 has-columns-requires c κs = search needs
 
-none-requires : tie.Need-none-requires Inv-loop μ-loop
-none-requires c κs = search needs
-
 returns : tie.Need-returns Inv-loop μ-loop
-returns c = let a = c .before .before .before .before .args in c .none .ensures ∙ no-sums (a .g) (a .stripe .now) (a .i) (a .w) (sym (c .before .before .has-columns .ensures) ∙ not-true _ (c .before .if1 .taken)) (a .g .n) (a .x) (a .y)
+returns c = let a = c .before .before .before .args in no-sums (a .g) (a .stripe .now) (a .i) (a .w) (sym (c .before .has-columns .ensures) ∙ not-true _ (c .if1 .taken)) (a .g .n) (a .x) (a .y)
 
 loop-holds : tie.Need-loop-holds Inv-loop μ-loop
 loop-holds c = (omega arith, tails-none _ _)
@@ -84,7 +81,6 @@ part-survivors-spec =
     Inv-loop
     μ-loop
     has-columns-requires
-    none-requires
     returns
     loop-holds
     sub-k

@@ -33,11 +33,8 @@ tested c = let a = c .before .before .before .args in has (a .g) (a .stripe .now
 has-columns-requires : tie.Need-has-columns-requires
 has-columns-requires c κs = search needs
 
-none-requires : tie.Need-none-requires
-none-requires c κs = search needs
-
 returns : tie.Need-returns
-returns c = let a = c .before .before .before .before .args in c .none .ensures ∙ no-sums (a .g) (a .stripe .now) (a .i) width (sym (c .before .before .has-columns .ensures) ∙ not-true _ (c .before .if1 .taken)) (a .g .n) (a .x) (a .y)
+returns c = let a = c .before .before .before .args in no-sums (a .g) (a .stripe .now) (a .i) width (sym (c .before .has-columns .ensures) ∙ not-true _ (c .if1 .taken)) (a .g .n) (a .x) (a .y)
 
 higher-requires : tie.Need-higher-requires
 higher-requires c κs = search needs
@@ -96,7 +93,6 @@ survivors-spec =
     tie.close
     (tie.spec
     has-columns-requires
-    none-requires
     returns
     higher-requires
     add-above-requires
