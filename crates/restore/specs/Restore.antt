@@ -1,22 +1,15 @@
 -- What a plan makes of a stripe, for any numbers.
-use Prim.Native.Nat.{ℕ, _+_}
-use mathlib.Core.Bool.{Bool, true}
+use Prim.Native.Nat.{ℕ}
 use mathlib.Core.List.{List}
-use lib.Dec.{eqb, ltb}
+use lib.Dec.{eqb}
 use lib.ListN.{length}
 use Rattle.base.specs.Choice.{choose, both}
 use Rattle.losses.specs.declared.Plan.{Plan}
-use Rattle.losses.specs.declared.Plan.the-variants.{ByP, FromData, ByBoth}
 use Rattle.losses.specs.Losses.{restoredBy}
 use Rattle.shape.specs.declared.Geometry.{Geometry}
 use Rattle.shape.specs.Layout.{lift}
 use Rattle.shape.specs.Refusals.{encodeRefusal}
-
--- a stripe with n data disks has the roles of a plan
-abbrev pub knownPlan : ℕ → Plan → Bool
-knownPlan n (ByP x) = ltb x (n + 2)
-knownPlan n (FromData with-p) = true
-knownPlan n (ByBoth x y rule) = both (ltb x (n + 2)) (ltb y (n + 2))
+use Rattle.parts.specs.Parts.{knownPlan}
 
 -- every column restored; the buffer as it was where it is no stripe, or not one that has these roles
 abbrev pub restored : Geometry → Plan → List ℕ → List ℕ

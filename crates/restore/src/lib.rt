@@ -15,7 +15,7 @@ ghost use Rattle.shape.specs.Refusals.{WellShaped};
 ghost use Rattle.shape.specs.Columns.{ColumnsMapped};
 ghost use Rattle.stretch.specs.Stretch.{Has, columnOf};
 ghost use Rattle.sums.specs.Sums.{sumsOf};
-ghost use Rattle.restore.specs.Restore.{knownPlan, restored};
+ghost use Rattle.restore.specs.Restore.{restored};
 
 // Restores a stripe. What is no stripe, or has not the roles of the plan, stays as it is.
 pub fn restore(g: Geometry, stripe: &mut [u8], plan: Plan)
@@ -24,20 +24,10 @@ pub fn restore(g: Geometry, stripe: &mut [u8], plan: Plan)
     if shape::encode_refusal(g, stripe.len()) != 0 {
         return;
     }
-    if !has_roles(g.n, plan) {
+    if !parts::has_roles(g.n, plan) {
         return;
     }
     restore_columns(g, stripe, plan);
-}
-
-fn has_roles(n: usize, plan: Plan) -> bool
-    ensures { λ r. ⌜ r ≡ knownPlan n plan ⌝ }
-{
-    match plan {
-        Plan::ByP(x) => stretch::has_role(n, x),
-        Plan::FromData(_) => true,
-        Plan::ByBoth(x, y, _) => stretch::has_role(n, x) && stretch::has_role(n, y),
-    }
 }
 
 // By whole chunks, of which the last may take columns again: what was lost comes out the same.
@@ -46,7 +36,7 @@ fn restore_columns(g: Geometry, stripe: &mut [u8], plan: Plan)
     ensures { λ _. ⌜ now (stripe .exit) ≡ lift g (λ i c. restoredBy (g .n) plan c) (now (stripe .entry)) ⌝ }
 {
     if g.b < WIDTH {
-        restore_part(g, stripe, plan);
+        parts::restore_part(g, stripe, plan);
         return;
     }
     let mut done = 0;
@@ -139,52 +129,4 @@ fn set_carried(g: Geometry, stripe: &mut [u8], i: usize, x: usize, y: usize, c: 
     chunk::add_product(&mut q, c, p);
     stretch::set(g, stripe, y, i, WIDTH, q);
     stretch::set(g, stripe, x, i, WIDTH, p);
-}
-
-// ---- the same for a block below a chunk
-
-fn restore_part(g: Geometry, stripe: &mut [u8], plan: Plan)
-    requires { ⌜ Has g (now stripe) 0 (g .b) × KnownPlan (g .n) plan ⌝ }
-    ensures { λ _. ⌜ now (stripe .exit) ≡ lift g (λ i c. restoredBy (g .n) plan c) (now (stripe .entry)) ⌝ }
-{
-    match plan {
-        Plan::ByP(x) => part_by_p(g, stripe, x),
-        Plan::FromData(both) => part_from_data(g, stripe, both),
-        Plan::ByBoth(x, y, rule) => part_by_both(g, stripe, x, y, rule),
-    }
-}
-
-fn part_by_p(g: Geometry, stripe: &mut [u8], x: usize)
-    requires { ⌜ Has g (now stripe) 0 (g .b) × (x < g .n + 2) ⌝ }
-    ensures { λ _. ⌜ now (stripe .exit) ≡ lift g (λ i c. restoredBy (g .n) (Plan.ByP x) c) (now (stripe .entry)) ⌝ }
-{
-    let p = sums::sum_without(g, stripe, 0, g.b, x);
-    stretch::set(g, stripe, x, 0, g.b, p);
-}
-
-fn part_from_data(g: Geometry, stripe: &mut [u8], both: bool)
-    requires { ⌜ Has g (now stripe) 0 (g .b) ⌝ }
-    ensures { λ _. ⌜ now (stripe .exit) ≡ lift g (λ i c. restoredBy (g .n) (Plan.FromData both) c) (now (stripe .entry)) ⌝ }
-{
-    let s = sums::part_survivors(g, stripe, 0, g.b, g.n, g.n + 1);
-    let p = s.p;
-    let q = s.q;
-    stretch::set(g, stripe, g.n + 1, 0, g.b, q);
-    if both {
-        stretch::set(g, stripe, g.n, 0, g.b, p);
-    }
-}
-
-fn part_by_both(g: Geometry, stripe: &mut [u8], x: usize, y: usize, rule: Rule)
-    requires { ⌜ Has g (now stripe) 0 (g .b) × (x < g .n + 2) × (y < g .n + 2) ⌝ }
-    ensures { λ _. ⌜ now (stripe .exit) ≡ lift g (λ i c. solved (g .n) x y rule c) (now (stripe .entry)) ⌝ }
-{
-    let s = sums::part_survivors(g, stripe, 0, g.b, x, y);
-    let p = s.p;
-    let q = s.q;
-    let new = losses::solve(rule, p, q);
-    let first = new.first;
-    let second = new.second;
-    stretch::set(g, stripe, y, 0, g.b, second);
-    stretch::set(g, stripe, x, 0, g.b, first);
 }

@@ -7,7 +7,8 @@ use Rattle.losses.specs.Losses.{KnownPlan}
 use Rattle.shape.specs.Refusals.{WellShaped}
 use Rattle.shape.proofs.Accepts.{shape-accepts}
 use Rattle.shape.proofs.Refused.{well-shaped}
-use Rattle.restore.proofs.Laws.{known, restored-is}
+use Rattle.parts.proofs.Laws.{known}
+use Rattle.restore.proofs.Laws.{restored-is}
 use Rattle.restore.proofs.restore.Statement.{statement}
 use Rattle.restore.proofs.restore.Tie as tie
 

@@ -1,12 +1,15 @@
 -- `restore::restore_columns` meets its contract. The loop's invariant: the first `done` columns are restored. The measure is what is left.
 -- Assumes nothing.
 use borrow.Author.Needs.{needs}
+use mathlib.Core.Path.{_∙_}
 use Prim.Native.Nat.{_-_, _≤_}
 use native.Mathlib.Omega.{arith}
 use Rattle.losses.specs.Losses.{restoredBy}
 use Rattle.losses.proofs.Again.{restored-again}
 use Rattle.shape.specs.Columns.{ColumnsMapped}
 use Rattle.shape.proofs.Columns.{shaped-same, columns-none, columns-count, columns-again, columns-all}
+use Rattle.stretch.specs.Stretch.{Has}
+use Rattle.parts.proofs.Laws.{part-is}
 use Rattle.restore.proofs.restore_columns.Statement.{statement}
 use Rattle.restore.proofs.restore_columns.Tie as tie
 
@@ -23,7 +26,11 @@ same-length : tie.Need-same-length Inv-loop μ-loop
 same-length c = c .before .before .restore-part .kept .1 .0
 
 returns : tie.Need-returns Inv-loop μ-loop
-returns c = search needs
+returns c =
+    let here = c .before .before .before .before .before .before .before in
+    let a = here .args in
+    let whole : Has (a .g) (a .stripe .now) 0 (a .g .b) = record { shaped = here .pre .0; fits = omega arith; held = omega arith } in
+    c .before .before .restore-part .ensures ∙ part-is (a .g) (a .plan) (a .stripe .now) whole (here .pre .1)
 
 loop-holds : tie.Need-loop-holds Inv-loop μ-loop
 loop-holds c = (omega arith, columns-none)

@@ -1,4 +1,4 @@
--- `restore::part_from_data` meets its contract: P* and Q* without the parities are the parities of the data.
+-- `parts::part_from_data` meets its contract: P* and Q* without the parities are the parities of the data.
 -- Assumes nothing.
 use borrow.Author.Needs.{needs}
 use mathlib.Core.Path.{_≡_, ap, ap₂, _∙_}
@@ -11,8 +11,8 @@ use Rattle.shape.specs.Layout.{column}
 use Rattle.shape.proofs.Columns.{columns-as, columns-all}
 use Rattle.stretch.proofs.Laws.{seen, set-columns, set-two}
 use Rattle.sums.specs.declared.Sums.{Sums}
-use Rattle.restore.proofs.part_from_data.Statement.{statement}
-use Rattle.restore.proofs.part_from_data.Tie as tie
+use Rattle.parts.proofs.part_from_data.Statement.{statement}
+use Rattle.parts.proofs.part_from_data.Tie as tie
 
 add-part-survivors : tie.Need-add-part-survivors
 add-part-survivors c = search needs

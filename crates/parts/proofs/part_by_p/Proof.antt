@@ -1,4 +1,4 @@
--- `restore::part_by_p` meets its contract: role x gets the sum of the data and P without it.
+-- `parts::part_by_p` meets its contract: role x gets the sum of the data and P without it.
 -- Assumes nothing.
 use borrow.Author.Needs.{needs}
 use mathlib.Core.Path.{ap}
@@ -8,8 +8,8 @@ use Rattle.losses.specs.Losses.{byP}
 use Rattle.shape.specs.Layout.{column}
 use Rattle.shape.proofs.Columns.{columns-as, columns-all}
 use Rattle.stretch.proofs.Laws.{seen, set-columns}
-use Rattle.restore.proofs.part_by_p.Statement.{statement}
-use Rattle.restore.proofs.part_by_p.Tie as tie
+use Rattle.parts.proofs.part_by_p.Statement.{statement}
+use Rattle.parts.proofs.part_by_p.Tie as tie
 
 sum-without-requires : tie.Need-sum-without-requires
 sum-without-requires c κs = search needs

@@ -1,4 +1,4 @@
--- `restore::part_by_both` meets its contract: what is set on the lost roles is solved from P* and Q* without them.
+-- `parts::part_by_both` meets its contract: what is set on the lost roles is solved from P* and Q* without them.
 -- Assumes nothing.
 use borrow.Author.Needs.{needs}
 use mathlib.Core.Path.{_≡_, ap, ap₂, _∙_}
@@ -14,8 +14,8 @@ use Rattle.shape.specs.Layout.{column}
 use Rattle.shape.proofs.Columns.{columns-as, columns-all}
 use Rattle.stretch.proofs.Laws.{seen, set-two}
 use Rattle.sums.specs.declared.Sums.{Sums}
-use Rattle.restore.proofs.part_by_both.Statement.{statement}
-use Rattle.restore.proofs.part_by_both.Tie as tie
+use Rattle.parts.proofs.part_by_both.Statement.{statement}
+use Rattle.parts.proofs.part_by_both.Tie as tie
 
 part-survivors-requires : tie.Need-part-survivors-requires
 part-survivors-requires c κs = search needs

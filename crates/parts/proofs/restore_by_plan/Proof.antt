@@ -1,8 +1,8 @@
--- `restore::restore_part` meets its contract, by the plan's cases.
+-- `parts::restore_by_plan` meets its contract, by the plan's cases.
 -- Assumes nothing.
 use borrow.Author.Needs.{needs}
-use Rattle.restore.proofs.restore_part.Statement.{statement}
-use Rattle.restore.proofs.restore_part.Tie as tie
+use Rattle.parts.proofs.restore_by_plan.Statement.{statement}
+use Rattle.parts.proofs.restore_by_plan.Tie as tie
 
 enum-known-plan : tie.Need-enum-known-plan
 enum-known-plan c = search needs
@@ -40,8 +40,8 @@ same-length-3 c = c .before .before .part-by-both .kept .1 .0
 returns-3 : tie.Need-returns-3
 returns-3 c = rw (c .before .before .before .before .before .plan3 .given .1) (c .before .before .part-by-both .ensures)
 
-pub restore-part-spec : {M : Type 1} → statement M
-restore-part-spec =
+pub restore-by-plan-spec : {M : Type 1} → statement M
+restore-by-plan-spec =
     tie.close
     (tie.spec
     enum-known-plan

@@ -1,9 +1,9 @@
--- `restore::has_roles` meets its contract, by the plan's cases.
+-- `parts::has_roles` meets its contract, by the plan's cases.
 -- Assumes nothing.
 use borrow.Author.Needs.{needs}
 use mathlib.Core.Path.{sym, _∙_}
-use Rattle.restore.proofs.has_roles.Statement.{statement}
-use Rattle.restore.proofs.has_roles.Tie as tie
+use Rattle.parts.proofs.has_roles.Statement.{statement}
+use Rattle.parts.proofs.has_roles.Tie as tie
 
 enum-known-plan : tie.Need-enum-known-plan
 enum-known-plan c = search needs
