@@ -1,4 +1,3 @@
 pub mod Copied
 pub mod Zeros
-pub mod Digits
 pub mod Laws

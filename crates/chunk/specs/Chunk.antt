@@ -1,5 +1,5 @@
 -- A chunk: as many bytes of a block as are worked on at a time. What is done with chunks is done place by place.
-use Prim.Native.Nat.{ℕ, zero, suc, _%_, _<_}
+use Prim.Native.Nat.{ℕ, zero, suc, _<_}
 use mathlib.Core.Path.{_≡_}
 use mathlib.Core.Bool.{Bool, true}
 use mathlib.Core.List.{List}
@@ -7,7 +7,7 @@ use lib.Dec.{eqb, ltb}
 use lib.ListN.{length, getD}
 use Rattle.base.specs.Choice.{choose, both}
 use Rattle.base.specs.Table.{tabulate}
-use Rattle.gf256.specs.Field.{sum, double, product}
+use Rattle.gf256.specs.Field.{sum, double}
 
 abbrev pub width : ℕ
 width = 64
@@ -29,16 +29,6 @@ plus a d = each (λ j. sum (getD a j 0) (getD d j 0))
 
 abbrev pub doublePlus : List ℕ → List ℕ → List ℕ
 doublePlus q d = each (λ j. sum (double (getD q j 0)) (getD d j 0))
-
-abbrev pub plusProduct : List ℕ → ℕ → List ℕ → List ℕ
-plusProduct a c x = each (λ j. sum (getD a j 0) (product c (getD x j 0)))
-
--- a + x where the lowest bit of m is one
-abbrev pub plusBit : ℕ → ℕ → ℕ → ℕ
-plusBit a m x = choose (eqb (m % 2) 1) (sum a x) a
-
-abbrev pub combined : ℕ → List ℕ → ℕ → List ℕ → List ℕ
-combined a p b q = each (λ j. sum (product a (getD p j 0)) (product b (getD q j 0)))
 
 -- whether the places below n of both hold 0
 unfoldable pub zeros : ℕ → List ℕ → List ℕ → Bool

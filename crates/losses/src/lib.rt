@@ -113,15 +113,15 @@ pub fn solve(rule: Rule, p: [u8; WIDTH], q: [u8; WIDTH]) -> Restored
     match rule {
         Rule::Mixed(a, b) => {
             let mut first = [0u8; WIDTH];
-            chunk::add_product(&mut first, a, p);
-            chunk::add_product(&mut first, b, q);
+            products::add_product(&mut first, a, p);
+            products::add_product(&mut first, b, q);
             let mut second = p;
             chunk::add(&mut second, &first);
             Restored { first, second }
         }
         Rule::Carried(c) => {
             let mut second = q;
-            chunk::add_product(&mut second, c, p);
+            products::add_product(&mut second, c, p);
             Restored { first: p, second }
         }
     }

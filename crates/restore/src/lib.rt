@@ -113,7 +113,7 @@ fn set_mixed(
 {
     let mut p = s.p;
     let q = s.q;
-    let first = chunk::combine(a, p, b, q);
+    let first = products::combine(a, p, b, q);
     chunk::add(&mut p, &first);
     stretch::set(g, stripe, y, i, WIDTH, p);
     stretch::set(g, stripe, x, i, WIDTH, first);
@@ -126,7 +126,7 @@ fn set_carried(g: Geometry, stripe: &mut [u8], i: usize, x: usize, y: usize, c: 
 {
     let p = s.p;
     let mut q = s.q;
-    chunk::add_product(&mut q, c, p);
+    products::add_product(&mut q, c, p);
     stretch::set(g, stripe, y, i, WIDTH, q);
     stretch::set(g, stripe, x, i, WIDTH, p);
 }

@@ -121,7 +121,7 @@ fn add_above(
         return to;
     }
     add_disks(g, stripe, i, lost + 1, to, p, q);
-    chunk::double(q);
+    products::double(q);
     lost
 }
 

@@ -103,6 +103,6 @@ pub fn changed(
     let mut p = p;
     chunk::add(&mut p, &change);
     let mut q = q;
-    chunk::add_product(&mut q, c, change);
+    products::add_product(&mut q, c, change);
     Parities { p, q }
 }

@@ -6,7 +6,8 @@ use mathlib.Core.List.{List}
 use Prim.Native.Nat.{ℕ}
 use lib.ListN.{length, getD, replicate, getD-replicate}
 use Rattle.base.proofs.Table.{getD-tabulate, is-tabulate, tabulate-same}
-use Rattle.chunk.specs.Chunk.{width, each, plus, plusProduct}
+use Rattle.chunk.specs.Chunk.{width, each, plus}
+use Rattle.products.specs.Products.{plusProduct}
 use Rattle.losses.specs.declared.Restored.{Restored}
 use Rattle.losses.specs.declared.Rule.the-variants.{Mixed}
 use Rattle.losses.specs.Losses.{element, solutions}

@@ -7,7 +7,8 @@ use Prim.Native.Nat.{ℕ}
 use lib.ListN.{getD}
 use Rattle.base.proofs.Table.{getD-tabulate, tabulate-same}
 use Rattle.gf256.specs.Field.{sum, product}
-use Rattle.chunk.specs.Chunk.{width, plus, plusProduct}
+use Rattle.chunk.specs.Chunk.{width, plus}
+use Rattle.products.specs.Products.{plusProduct}
 use Rattle.write.specs.declared.Parities.{Parities}
 use Rattle.write.specs.Changed.{changedBy}
 use Rattle.write.proofs.changed.Statement.{statement}

@@ -1,4 +1,4 @@
--- `chunk::add_product` meets its contract. The loop's invariant: at every place a + c x is what it was. The measure is c.
+-- `products::add_product` meets its contract. The loop's invariant: at every place a + c x is what it was. The measure is c.
 -- Assumes nothing.
 use mathlib.Core.Path.{_≡_, refl, sym, ap, _∙_}
 use mathlib.Core.Logic.{⊎-elim}
@@ -9,10 +9,10 @@ use borrow.Author.Needs.{needs, elem-fits}
 use lib.ListN.{length, getD}
 use Rattle.gf256.specs.Field.{sum, double, product}
 use Rattle.base.proofs.Table.{length-tabulate, getD-tabulate, is-tabulate}
 use Rattle.chunk.specs.Chunk.{width}
-use Rattle.chunk.proofs.Digits.{double-lt, no-digit, even-digit, odd-digit}
-use Rattle.chunk.proofs.add_product.Statement.{statement}
-use Rattle.chunk.proofs.add_product.Tie as tie
+use Rattle.products.proofs.Digits.{double-lt, no-digit, even-digit, odd-digit}
+use Rattle.products.proofs.add_product.Statement.{statement}
+use Rattle.products.proofs.add_product.Tie as tie
 
 abbrev Inv-loop : tie.InvT-loop
 Inv-loop a₀ c₀ x₀ a c x =

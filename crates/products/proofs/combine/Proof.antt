@@ -1,4 +1,4 @@
--- `chunk::combine` meets its contract. The loop's invariant: d is the sum of the products by the digits from k on. The measure is k.
+-- `products::combine` meets its contract. The loop's invariant: d is the sum of the products by the digits from k on. The measure is k.
 -- Assumes nothing.
 use mathlib.Core.Path.{_≡_, refl, sym, ap, ap₂, _∙_}
 use mathlib.Core.List.{List}
@@ -9,10 +9,11 @@ use borrow.Author.Needs.{needs, elem-fits}
 use lib.ListN.{length, getD, getD-replicate}
 use Rattle.base.proofs.Table.{length-tabulate, getD-tabulate, is-tabulate}
 use Rattle.gf256.specs.Field.{sum, double, product}
-use Rattle.chunk.specs.Chunk.{width, plusBit}
-use Rattle.chunk.proofs.Digits.{plus-bit, combined-none, combined-more}
-use Rattle.chunk.proofs.combine.Statement.{statement}
-use Rattle.chunk.proofs.combine.Tie as tie
+use Rattle.chunk.specs.Chunk.{width}
+use Rattle.products.specs.Products.{plusBit}
+use Rattle.products.proofs.Digits.{plus-bit, combined-none, combined-more}
+use Rattle.products.proofs.combine.Statement.{statement}
+use Rattle.products.proofs.combine.Tie as tie
 
 abbrev Inv-loop : tie.InvT-loop
 Inv-loop a b p q d₀ k₀ d k =

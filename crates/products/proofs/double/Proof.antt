@@ -1,13 +1,13 @@
--- `chunk::double` meets its contract. The loop's invariant: the places below j are doubled. The measure is what is left.
+-- `products::double` meets its contract. The loop's invariant: the places below j are doubled. The measure is what is left.
 -- Assumes nothing.
 use Prim.Native.Nat.{_-_, _≤_}
 use native.Mathlib.Omega.{arith}
 use borrow.Author.Needs.{needs}
 use Rattle.gf256.specs.Field.{double}
 use Rattle.base.proofs.Fill.{Filled, fill-none, fill-more, fill-all}
 use Rattle.chunk.specs.Chunk.{width}
-use Rattle.chunk.proofs.double.Statement.{statement}
-use Rattle.chunk.proofs.double.Tie as tie
+use Rattle.products.proofs.double.Statement.{statement}
+use Rattle.products.proofs.double.Tie as tie
 
 abbrev Inv-loop : tie.InvT-loop
 Inv-loop x₀ j₀ x j = (j ≤ width) × Filled (λ j v. double v) width x₀ x j

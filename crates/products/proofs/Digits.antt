@@ -8,7 +8,7 @@ use borrow.Author.Tests.{eq-eqb, ne-eqb}
 use lib.Dec.{T}
 use lib.Pow.{shr-shr, shr-le}
 use Rattle.gf256.specs.Field.{sum, double, product}
-use Rattle.chunk.specs.Chunk.{plusBit}
+use Rattle.products.specs.Products.{plusBit}
 use Rattle.gf256.proofs.Check.{same, same-at}
 use Rattle.gf256.proofs.Laws.{sum-assoc, zero-sum, sum-zero, product-lt, product-left, product-comm, product-assoc, product-one, product-zero, double-product, sum-comm, sum-exchange, xor-lt, product-right}
 

@@ -1,11 +1,11 @@
--- `chunk::add_bit` meets its contract, by the bit.
+-- `products::add_bit` meets its contract, by the bit.
 -- Assumes nothing.
 use borrow.Author.Needs.{needs}
 use mathlib.Core.Path.{sym, _∙_}
 use Prim.Native.Nat.{_%_}
 use borrow.Author.Tests.{eq-eqb, ne-eqb}
-use Rattle.chunk.proofs.add_bit.Statement.{statement}
-use Rattle.chunk.proofs.add_bit.Tie as tie
+use Rattle.products.proofs.add_bit.Statement.{statement}
+use Rattle.products.proofs.add_bit.Tie as tie
 
 sum-requires : tie.Need-sum-requires
 sum-requires c κs = search needs

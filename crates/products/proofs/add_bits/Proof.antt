@@ -1,4 +1,4 @@
--- `chunk::add_bits` meets its contract. The loop's invariant: the places below j are doubled, with the bits' parts. The measure is what is left.
+-- `products::add_bits` meets its contract. The loop's invariant: the places below j are doubled, with the bits' parts. The measure is what is left.
 -- Assumes nothing.
 use mathlib.Core.Path.{ap, _∙_}
 use Prim.Native.Nat.{ℕ, _-_, _≤_}
@@ -7,9 +7,10 @@ use borrow.Author.Needs.{needs}
 use lib.ListN.{getD}
 use Rattle.gf256.specs.Field.{double}
 use Rattle.base.proofs.Fill.{Filled, fill-none, fill-more, fill-all}
-use Rattle.chunk.specs.Chunk.{width, plusBit}
-use Rattle.chunk.proofs.add_bits.Statement.{statement}
-use Rattle.chunk.proofs.add_bits.Tie as tie
+use Rattle.chunk.specs.Chunk.{width}
+use Rattle.products.specs.Products.{plusBit}
+use Rattle.products.proofs.add_bits.Statement.{statement}
+use Rattle.products.proofs.add_bits.Tie as tie
 
 abbrev Inv-loop : tie.InvT-loop
 Inv-loop d₀ m x n y j₀ d j = (j ≤ width) × Filled (λ j v. plusBit (plusBit (double v) m (getD x j 0)) n (getD y j 0)) width d₀ d j
