@@ -4,7 +4,7 @@ use Prim.Native.Nat.{ℕ}
 use mathlib.Core.Path.{_≡_}
 use mathlib.Core.List.{List, [], _∷_, _++_}
 use lib.Dec.{eqb, leb}
-use lib.ListN.{length, take, drop}
+use lib.ListN.{length, drop}
 use Rattle.shape.specs.declared.Geometry.{Geometry}
 use Rattle.devices.specs.declared.Naming.{Naming}
 use Rattle.devices.specs.declared.Naming.the-variants.{Loss, Wrong}
@@ -45,18 +45,3 @@ pub record AnswerCall (job before : List ℕ) (r : ℕ) (after : List ℕ) : Typ
   pub count : r ≡ choose (leb (length (answerTo job)) (length before)) (length (answerTo job)) 0
   pub output :
       after ≡ choose (leb (length (answerTo job)) (length before)) (answerTo job ++ drop (length (answerTo job)) before) before
-
--- The program's buffers. The input has room for one byte more than the longest job that is taken, so that a longer one is told from it;
--- the output has room for every answer.
-abbrev pub inputSize : ℕ
-inputSize = 61455
-
-abbrev pub outputSize : ℕ
-outputSize = 61446
-
--- The contract over these buffers. The job is what was read into the input; a count above its size stands for all of it. The answer
--- stands whole at the output's start, its length is returned, and the rest of the output is left.
-pub record AnswerInputCall (input : List ℕ) (read : ℕ) (before : List ℕ) (r : ℕ) (after : List ℕ) : Type 0 where
-  pub sizes : (length input ≡ inputSize) × (length before ≡ outputSize)
-  pub count : r ≡ length (answerTo (take read input))
-  pub output : after ≡ answerTo (take read input) ++ drop (length (answerTo (take read input))) before

@@ -9,19 +9,7 @@ ghost use Rattle.shape.specs.Refusals.{encodeRefusal};
 ghost use Rattle.stripe.specs.Stripe.{verdicts};
 ghost use Rattle.header.specs.Fields.{fields};
 ghost use Rattle.header.specs.Refusals.{jobRefusal};
-ghost use Rattle.job.specs.Answer.{report, body, answerTo, AnswerCall, AnswerInputCall};
-
-// Answers the bytes read into the program's input buffer. Its output has room for every answer.
-pub fn answer_input(input: &[u8; 61455], read: usize, output: &mut [u8; 61446]) -> usize
-    ensures { λ r. ⌜ AnswerInputCall (now (input .entry)) read (now (output .entry)) r (now (output .exit)) ⌝ }
-{
-    let bytes: &[u8] = input;
-    if bytes.len() < read {
-        answer(bytes, output)
-    } else {
-        answer(&bytes[..read], output)
-    }
-}
+ghost use Rattle.job.specs.Answer.{report, body, answerTo, AnswerCall};
 
 // Puts the answer to a job at the start of the output and returns its length. Where the output has
 // no room for it, writes nothing and returns 0.

@@ -7,7 +7,7 @@ fn main() {
     let mut input = [0u8; 61455];
     let read = io::read_full(STDIN_FILENO, &mut input);
     let mut output = [0u8; 61446];
-    let count = job::answer_input(&input, read, &mut output);
+    let count = buffers::answer_input(&input, read, &mut output);
     if !io::write_all(STDOUT_FILENO, &output[..count]) {
         // A program in Rattle has no exit status to say it by.
         io::write_all(

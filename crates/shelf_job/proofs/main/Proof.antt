@@ -1,9 +1,9 @@
--- `shelf_job::main` is safe: what `job::answer_input` returns counts bytes of the output.
+-- `shelf_job::main` is safe: what `buffers::answer_input` returns counts bytes of the output.
 -- Assumes nothing.
 use mathlib.Core.Path.{sym}
 use borrow.Author.Needs.{needs}
 use lib.Seq.{length-take-le}
-use Rattle.job.proofs.Answers.{input-within}
+use Rattle.buffers.proofs.Buffers.{input-within}
 use Rattle.shelf_job.proofs.main.Statement.{statement}
 use Rattle.shelf_job.proofs.main.Tie as tie
 

@@ -1,12 +1,12 @@
--- `job::answer_input` meets its contract: what was read is a part of the input, and the output has room for every answer.
+-- `buffers::answer_input` meets its contract: what was read is a part of the input, and the output has room for every answer.
 -- Assumes nothing.
 use mathlib.Core.Path.{refl, sym}
 use native.Mathlib.Omega.{arith}
 use borrow.Author.Needs.{needs}
 use lib.Seq.{take-all, length-take-le}
-use Rattle.job.proofs.Answers.{input-answered}
-use Rattle.job.proofs.answer_input.Statement.{statement}
-use Rattle.job.proofs.answer_input.Tie as tie
+use Rattle.buffers.proofs.Buffers.{input-answered}
+use Rattle.buffers.proofs.answer_input.Statement.{statement}
+use Rattle.buffers.proofs.answer_input.Tie as tie
 
 answer-requires : tie.Need-answer-requires
 answer-requires c κs = search needs
