@@ -2,7 +2,7 @@
 -- Assumes nothing.
 use mathlib.Core.Path.{_≡_, refl, sym, ap, _∙_}
 use mathlib.Core.Bool.{false}
-use mathlib.Core.List.{List, _∷_}
+use mathlib.Core.List.{List}
 use Prim.Native.Nat.{ℕ, _+_, _*_}
 use native.Mathlib.Omega.{arith}
 use native.Mathlib.Decide.{ℕ-discrete}
@@ -11,21 +11,19 @@ use Rattle.column.specs.declared.Lost.{Lost}
 use Rattle.shape.specs.declared.Geometry.{Geometry}
 use Rattle.devices.specs.declared.Naming.{Naming}
 use Rattle.devices.specs.declared.Naming.the-variants.{Loss, Wrong}
-use Rattle.column.specs.Column.{reedSolomon, encodeColumn, rebuildColumn, verdict}
-use Rattle.shape.specs.Layout.{column}
+use Rattle.column.specs.Column.{reedSolomon, encodeColumn, rebuildColumn}
 use Rattle.stripe.specs.Stripe.{encoded, rebuilt, verdicts}
-use Rattle.verdict.specs.Summary.{summary}
 use Rattle.shape.specs.Refusals.{library, shapeRefusals, encodeRefusal}
 use Rattle.devices.specs.Refusals.{unknownLost, twice, lossRefusals, rebuildRefusal}
 use Rattle.stripe.specs.Calls.{afterEncode, afterRebuild, rebuiltBy}
 use Rattle.shape.proofs.Places.{length-lift}
-use Rattle.base.proofs.Table.{length-tabulate}
 use Rattle.base.proofs.Refused.{first-passed, left-done}
 use Rattle.header.specs.Header.{commandOf, geometryOf, lossNamed, stripeOf}
 use Rattle.devices.specs.Codes.{misnamed, namedTwice}
-use Rattle.job.specs.Answer.{restored, report, body}
+use Rattle.report.specs.Report.{report, afterReport}
+use Rattle.job.specs.Answer.{restored, body}
 use Rattle.header.proofs.Accepted.{Accepted}
-use Rattle.header.proofs.Fielded.{length-fields}
+use Rattle.report.proofs.Laws.{length-report, report-done}
 
 length-restored : (g : Geometry) (loss : Naming) (s : List ℕ) → length (restored g loss s) ≡ length s
 length-restored g (Loss lost) s = length-lift g (λ i c. rebuildColumn reedSolomon (g .n) lost c) s
@@ -51,11 +49,7 @@ module _ (job : List ℕ) where
   body-check e = rw e
 
   pub length-check : commandOf job ≡ 3 → length (body job) ≡ 2 + 2 * g .b
-  length-check e =
-      let vs = verdicts g s in
-      let columns : length vs ≡ g .b = length-tabulate (g .b) (λ i. verdict (g .n) (column g s i)) in
-      let bytes : length (report vs) ≡ 2 * length (summary vs ∷ vs) = length-fields (summary vs ∷ vs) in
-      ap length (body-check e) ∙ bytes ∙ omega arith
+  length-check e = ap length (body-check e) ∙ length-report g s
 
   module _ (ok : Accepted job) where
     pub other : (commandOf job ≡ 1 → ⊥) → (commandOf job ≡ 3 → ⊥) → commandOf job ≡ 2
@@ -69,10 +63,13 @@ module _ (job : List ℕ) where
         go (yes e) = ap length (body-encode e) ∙ length-lift g (λ i c. encodeColumn reedSolomon (g .n) c) s
         go (no p) = ap length (body-rebuild (other p h)) ∙ length-restored g (lossNamed job) s
 
-    -- what the stripe's calls leave is the body
+    -- what the calls leave is the body
     pub encode-done : commandOf job ≡ 1 → afterEncode g s ≡ body job
     unfolding afterEncode
     encode-done e = left-done (encodeRefusal g (length s)) (encoded g s) s (ok .shape) ∙ sym (body-encode e)
+
+    pub check-done : commandOf job ≡ 3 → (out : List ℕ) → length out ≡ length (body job) → afterReport g s out ≡ body job
+    check-done e out room = report-done g s out (ok .shape) (room ∙ length-check e) ∙ sym (body-check e)
 
     pub loss-accepted : (lost : Lost) → unknownLost g lost ≡ false → twice lost ≡ false → rebuildRefusal g (length s) lost ≡ 0
     loss-accepted lost m t = first-passed (shapeRefusals library g (length s)) (lossRefusals g lost) refl (ok .shape) ∙ simp (m, t)

@@ -10,11 +10,11 @@ use Rattle.devices.specs.declared.Naming.{Naming}
 use Rattle.devices.specs.declared.Naming.the-variants.{Loss, Wrong}
 use Rattle.base.specs.Choice.{choose}
 use Rattle.stripe.specs.Stripe.{encoded, rebuilt, verdicts}
-use Rattle.verdict.specs.Summary.{summary}
 use Rattle.base.specs.Refusal.{unlessRefused}
-use Rattle.header.specs.Fields.{bigEndian, fields}
+use Rattle.header.specs.Fields.{bigEndian}
 use Rattle.header.specs.Header.{mark, commandOf, geometryOf, lossNamed, stripeOf}
 use Rattle.header.specs.Refusals.{jobRefusal}
+use Rattle.report.specs.Report.{report}
 
 -- the six bytes of every answer
 abbrev pub opening : ℕ → List ℕ
@@ -24,9 +24,6 @@ opening result = mark ++ (bigEndian 1 ++ (result ∷ []))
 abbrev pub restored : Geometry → Naming → List ℕ → List ℕ
 restored g (Loss lost) s = rebuilt g lost s
 restored g Wrong s = s
-
-abbrev pub report : List ℕ → List ℕ
-report vs = fields (summary vs ∷ vs)
 
 -- what follows the six bytes where the job is not refused
 abbrev pub outcome : ℕ → Geometry → Naming → List ℕ → List ℕ

@@ -1,15 +1,9 @@
 // One job: a header of 14 bytes and a stripe, answered by six bytes and, unless the job is refused,
 // the stripe after its encode or rebuild, or what a check of it found.
-use shape::Geometry;
-use stripe::Checked;
 ghost use mathlib.Core.Path.{_≡_};
-ghost use Prim.Native.Nat.{_+_, _*_};
 ghost use lib.ListN.{length};
-ghost use Rattle.shape.specs.Refusals.{encodeRefusal};
-ghost use Rattle.stripe.specs.Stripe.{verdicts};
-ghost use Rattle.header.specs.Fields.{fields};
 ghost use Rattle.header.specs.Refusals.{jobRefusal};
-ghost use Rattle.job.specs.Answer.{report, body, answerTo, AnswerCall};
+ghost use Rattle.job.specs.Answer.{body, answerTo, AnswerCall};
 
 // Puts the answer to a job at the start of the output and returns its length. Where the output has
 // no room for it, writes nothing and returns 0.
@@ -52,7 +46,7 @@ fn respond(job: &[u8], result: u8, out: &mut [u8])
     run(job, &mut out[6..]);
 }
 
-// What follows the six bytes. The stripe's calls are not refused: the job's own tests passed.
+// What follows the six bytes. The calls are not refused: the job's own tests passed.
 fn run(job: &[u8], out: &mut [u8])
     requires { ⌜ (jobRefusal (now job) ≡ 0) × (length (now out) ≡ length (body (now job))) ⌝ }
     ensures { λ _. ⌜ now (out .exit) ≡ body (now (job .entry)) ⌝ }
@@ -61,7 +55,7 @@ fn run(job: &[u8], out: &mut [u8])
     let command = job[5];
     let stripe = &job[14..];
     if command == 3 {
-        check(g, stripe, out);
+        report::check(g, stripe, out);
         return;
     }
     bytes::copy(stripe, out);
@@ -70,38 +64,4 @@ fn run(job: &[u8], out: &mut [u8])
         return;
     }
     stripe::rebuild_named(g, out, header::field(job, 10), header::field(job, 12));
-}
-
-fn check(g: Geometry, stripe: &[u8], out: &mut [u8])
-    requires { ⌜ (encodeRefusal g (length (now stripe)) ≡ 0) × (length (now out) ≡ 2 + 2 * g .b) ⌝ }
-    ensures { λ _. ⌜ now (out .exit) ≡ report (verdicts g (now (stripe .entry))) ⌝ }
-{
-    let mut room = [0u16; 4096];
-    let b = g.b;
-    check_in(g, stripe, &mut room[..b], out);
-}
-
-// The check with a room for its verdicts.
-fn check_in(g: Geometry, stripe: &[u8], room: &mut [u16], out: &mut [u8])
-    requires { ⌜ (encodeRefusal g (length (now stripe)) ≡ 0) × (length (now room) ≡ g .b) × (length (now out) ≡ 2 + 2 * g .b) ⌝ }
-    ensures { λ _. ⌜ now (out .exit) ≡ report (verdicts g (now (stripe .entry))) ⌝ }
-{
-    let Checked::Summary(summary) = stripe::check(g, stripe, room) else {
-        return;
-    };
-    bytes::copy(&header::big_endian(summary), out);
-    put_all(room, &mut out[2..]);
-}
-
-fn put_all(values: &[u16], out: &mut [u8])
-    requires { ⌜ length (now out) ≡ 2 * length (now values) ⌝ }
-    ensures { λ _. ⌜ now (out .exit) ≡ fields (now (values .entry)) ⌝ }
-{
-    let mut i = 0;
-    while i < values.len() {
-        let pair = header::big_endian(values[i]);
-        out[2 * i] = pair[0];
-        out[2 * i + 1] = pair[1];
-        i += 1;
-    }
 }

@@ -1,20 +1,18 @@
 -- `job::run` meets its contract: a call of the stripe for each command.
 -- Assumes nothing.
-use mathlib.Core.Path.{_≡_, sym, ap, ap₂, _∙_}
+use mathlib.Core.Path.{_≡_, ap, ap₂, _∙_}
 use mathlib.Core.List.{List, _++_}
-use Prim.Native.Nat.{ℕ, _+_, _*_}
+use Prim.Native.Nat.{ℕ}
 use native.Mathlib.Omega.{arith}
 use borrow.Author.Needs.{needs}
 use lib.ListN.{length, take, drop}
 use Rattle.shape.specs.declared.Geometry.{Geometry}
 use Rattle.stripe.specs.Calls.{afterEncode, rebuiltBy}
 use Rattle.devices.specs.Codes.{namingOf}
-use Rattle.shape.specs.Refusals.{encodeRefusal}
-use Rattle.stripe.specs.Stripe.{verdicts}
 use Rattle.header.specs.Header.{geometryOf, stripeOf}
-use Rattle.job.specs.Answer.{report}
+use Rattle.report.specs.Report.{afterReport}
 use Rattle.header.proofs.Accepted.{Accepted, accepted}
-use Rattle.job.proofs.Bodies.{body-check, length-check, length-stripe, other, encode-done, rebuild-done}
+use Rattle.job.proofs.Bodies.{length-stripe, other, encode-done, check-done, rebuild-done}
 use Rattle.base.proofs.Tails.{tail, filled}
 use Rattle.job.proofs.run.Statement.{statement}
 use Rattle.job.proofs.run.Tie as tie
@@ -51,23 +49,18 @@ part-stripe-end : tie.Need-part-stripe-end
 part-stripe-end c = search needs
 
 check-requires : tie.Need-check-requires
-check-requires c κs =
-    let s = c .before .before .before .before .before .before .before in
-    let job = s .args .job .now in
-    let g = c .before .before .before .before .geometry .ensures in (
-      ap₂ (λ (g : Geometry) (l : List ℕ). encodeRefusal g (length l)) g (tail 14 job) ∙ ok s .shape,
-      s .pre .1 ∙ length-check job (c .before .if1 .taken) ∙ ap (λ (g : Geometry). 2 + 2 * g .b) (sym g),
-    )
+check-requires c κs = search needs
 
 same-length : tie.Need-same-length
 same-length c = search needs
 
 returns : tie.Need-returns
 returns c =
-    let job = c .before .before .before .before .before .before .before .before .before .before .args .job .now in
+    let s = c .before .before .before .before .before .before .before .before .before .before in
+    let job = s .args .job .now in
     c .before .before .check .ensures
-    ∙ ap₂ (λ (g : Geometry) (l : List ℕ). report (verdicts g l)) (c .before .before .before .before .before .before .before .geometry .ensures) (tail 14 job)
-    ∙ sym (body-check job (c .before .before .before .before .if1 .taken))
+    ∙ ap₂ (λ (g : Geometry) (l : List ℕ). afterReport g l (s .args .out .now)) (c .before .before .before .before .before .before .before .geometry .ensures) (tail 14 job)
+    ∙ check-done job (ok s) (c .before .before .before .before .if1 .taken) (s .args .out .now) (s .pre .1)
 
 copy-requires : tie.Need-copy-requires
 copy-requires c κs = omega (arith, room (c .before), ap length (tail 14 (c .before .before .before .before .before .before .before .args .job .now)))

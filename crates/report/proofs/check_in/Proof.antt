@@ -1,4 +1,4 @@
--- `job::check_in` meets its contract: the check is not refused, and its summary and verdicts are written one after the other.
+-- `report::check_in` meets its contract: the check is not refused, and its summary and verdicts are written one after the other.
 -- Assumes nothing.
 use mathlib.Core.Path.{_≡_, refl, ap, ap₂, _∙_}
 use mathlib.Core.List.{List, [], _∷_, _++_}
@@ -15,8 +15,8 @@ use Rattle.verdict.specs.Summary.{summary}
 use Rattle.base.proofs.Refused.{first-passed, left-done}
 use Rattle.header.specs.Fields.{bigEndian, fields}
 use Rattle.base.proofs.Tails.{put-tail}
-use Rattle.job.proofs.check_in.Statement.{statement}
-use Rattle.job.proofs.check_in.Tie as tie
+use Rattle.report.proofs.check_in.Statement.{statement}
+use Rattle.report.proofs.check_in.Tie as tie
 
 -- refusals 1 to 3 do not apply, and the room has B places
 accepted : (c : tie.After-slice-known3) → let a = c .before .before .before .before .before .before .before .args in checkRefusal (a .g) (length (a .stripe .now)) (length (a .room .now)) ≡ 0

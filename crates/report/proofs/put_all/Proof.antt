@@ -1,4 +1,4 @@
--- `job::put_all` meets its contract. The loop's invariant: the first i fields are stored. The measure is what is left of the numbers.
+-- `report::put_all` meets its contract. The loop's invariant: the first i fields are stored. The measure is what is left of the numbers.
 -- Assumes nothing.
 use Prim.Native.Nat.{ℕ, _+_, _*_, _-_, _≤_}
 use mathlib.Core.Path.{_≡_, refl, ap₂, _∙_}
@@ -8,8 +8,8 @@ use borrow.Author.Needs.{needs}
 use lib.ListN.{length, getD, take, drop, set, length-set}
 use Rattle.header.specs.Fields.{fields}
 use Rattle.header.proofs.Fielded.{fields-more, fields-all}
-use Rattle.job.proofs.put_all.Statement.{statement}
-use Rattle.job.proofs.put_all.Tie as tie
+use Rattle.report.proofs.put_all.Statement.{statement}
+use Rattle.report.proofs.put_all.Tie as tie
 
 abbrev Inv-loop : tie.InvT-loop
 Inv-loop values out₀ i₀ out i =
