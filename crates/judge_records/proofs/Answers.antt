@@ -9,8 +9,9 @@ use lib.ListN.{length, getD, drop, length-append}
 use lib.Seq.{take-at, drop-append-add, drop-drop}
 use Rattle.base.specs.Table.{spliced}
 use Rattle.bitmatrix.specs.Judge.{judged}
+use Rattle.judge_code.specs.Code.{codeAt}
 use Rattle.judge_answer.proofs.Lengths.{length-answer}
-use Rattle.judge_records.specs.Records.{codeAt, answerAt, answers}
+use Rattle.judge_records.specs.Records.{answerAt, answers}
 
 length-answers : (k : ℕ) (codes : List ℕ) → length (answers k codes) ≡ 7 * k
 unfolding answers

@@ -4,7 +4,7 @@ ghost use mathlib.Core.Path.{_≡_};
 ghost use Prim.Native.Nat.{_+_, _≤_, min};
 ghost use lib.ListN.{length};
 ghost use Rattle.base.specs.Table.{spliced};
-ghost use Rattle.judge_records.specs.Records.{matrixAt, codeAt, answerAt, JudgeAllCall};
+ghost use Rattle.judge_records.specs.Records.{answerAt, JudgeAllCall};
 
 // Puts the answers to the whole records, as many as have room, at the start of the output and returns their length.
 pub fn judge_all(codes: &[u8], out: &mut [u8]) -> usize
@@ -37,39 +37,7 @@ fn judge_at(codes: &[u8], at: usize) -> [u8; 7]
     requires { ⌜ at + 65 ≤ length (now codes) ⌝ }
     ensures { λ r. ⌜ r ≡ answerAt (now (codes .entry)) at ⌝ }
 {
-    judge_answer::answer(bitmatrix::judge(code_at(codes, at + 1), wide(codes[at])))
-}
-
-fn code_at(s: &[u8], at: usize) -> [[u8; 8]; 8]
-    requires { ⌜ at + 64 ≤ length (now s) ⌝ }
-    ensures { λ r. ⌜ r ≡ codeAt (now (s .entry)) at ⌝ }
-{
-    [
-        matrix_at(s, at),
-        matrix_at(s, at + 8),
-        matrix_at(s, at + 16),
-        matrix_at(s, at + 24),
-        matrix_at(s, at + 32),
-        matrix_at(s, at + 40),
-        matrix_at(s, at + 48),
-        matrix_at(s, at + 56),
-    ]
-}
-
-fn matrix_at(s: &[u8], at: usize) -> [u8; 8]
-    requires { ⌜ at + 8 ≤ length (now s) ⌝ }
-    ensures { λ r. ⌜ r ≡ matrixAt (now (s .entry)) at ⌝ }
-{
-    [
-        s[at],
-        s[at + 1],
-        s[at + 2],
-        s[at + 3],
-        s[at + 4],
-        s[at + 5],
-        s[at + 6],
-        s[at + 7],
-    ]
+    judge_answer::answer(bitmatrix::judge(judge_code::code_at(codes, at + 1), wide(codes[at])))
 }
 
 fn wide(x: u8) -> usize
