@@ -1,5 +1,5 @@
--- The product respects the sum on both sides, so its laws hold at every pair or triple of bytes once antt has computed them at the
--- powers of two: 64 cases for commutativity, 512 for associativity.
+-- The product respects the sum on both sides, so its laws hold at every pair of bytes once antt has computed them at the powers of two: 64
+-- cases each. The product with a power of two is that with 02, again and again; associativity follows.
 -- Assumes nothing.
 use mathlib.Core.Path.{_≡_, refl, sym, ap, ap₂, _∙_}
 use mathlib.Core.Bool.{Bool}
@@ -126,12 +126,54 @@ product-comm a b = sym (product-mod a b) ∙ bytes (a % 256) (b % 256) (low a) (
         b hb)
         a ha
 
-abbrev assoc-at : ℕ → ℕ → Bool
-assoc-at i j = same 8 (λ k. product (product (2 ^ i) (2 ^ j)) (2 ^ k)) (λ k. product (2 ^ i) (product (2 ^ j) (2 ^ k)))
+-- times 02 again and again: a factor of it may be taken out of the right side, and the product with 02^k is k of them
+abbrev doubled : ℕ → ℕ → ℕ
+doubled zero x = x
+doubled (suc k) x = product 2 (doubled k x)
 
-assoc-tested : T (all 8 (λ i. all 8 (assoc-at i)))
+doubled-additive : (k : ℕ) → Additive (doubled k)
+doubled-additive zero = λ x y. refl
+doubled-additive (suc k) = additive-after (product 2) (doubled k) (product-right 2) (doubled-additive k)
+
+abbrev out-at : ℕ → Bool
+out-at i = same 8 (λ j. product (2 ^ i) (product 2 (2 ^ j))) (λ j. product 2 (product (2 ^ i) (2 ^ j)))
+
+out-tested : T (all 8 out-at)
 unfolding product carryless remainder
-assoc-tested = tt
+out-tested = tt
+
+taken-out : (a b : ℕ) → a < 256 → b < 256 → product a (product 2 b) ≡ product 2 (product a b)
+taken-out a b ha hb =
+    agree (λ x. product x (product 2 b)) (λ x. product 2 (product x b)) (product-left (product 2 b))
+    (additive-after (product 2) (λ x. product x b) (product-right 2) (product-left b)) 8
+    (λ i hi.
+    agree (λ y. product (2 ^ i) (product 2 y)) (λ y. product 2 (product (2 ^ i) y))
+    (additive-after (product (2 ^ i)) (product 2) (product-right (2 ^ i)) (product-right 2))
+    (additive-after (product 2) (product (2 ^ i)) (product-right 2) (product-right (2 ^ i))) 8
+    (same-at 8 (λ j. product (2 ^ i) (product 2 (2 ^ j))) (λ j. product 2 (product (2 ^ i) (2 ^ j))) (all-at 8 out-at out-tested i hi))
+    b hb)
+    a ha
+
+doubled-lt : (k x : ℕ) → x < 256 → doubled k x < 256
+doubled-lt zero x h = h
+doubled-lt (suc k) x h = product-lt 2 (doubled k x)
+
+doubled-out : (k a b : ℕ) → a < 256 → b < 256 → product a (doubled k b) ≡ doubled k (product a b)
+doubled-out zero a b ha hb = refl
+doubled-out (suc k) a b ha hb = taken-out a (doubled k b) ha (doubled-lt k b hb) ∙ ap (product 2) (doubled-out k a b ha hb)
+
+abbrev power-at : ℕ → Bool
+power-at k = same 8 (λ i. product (2 ^ i) (2 ^ k)) (λ i. doubled k (2 ^ i))
+
+power-tested : T (all 8 power-at)
+unfolding product carryless remainder
+power-tested = tt
+
+by-power : (k x : ℕ) → k < 8 → x < 256 → product x (2 ^ k) ≡ doubled k x
+by-power k x hk hx =
+    agree (λ y. product y (2 ^ k)) (doubled k) (product-left (2 ^ k)) (doubled-additive k) 8
+    (same-at 8 (λ i. product (2 ^ i) (2 ^ k)) (λ i. doubled k (2 ^ i)) (all-at 8 power-at power-tested k hk))
+    x hx
 
 pub product-assoc : (a b c : ℕ) → product (product a b) c ≡ product a (product b c)
 product-assoc a b c =
@@ -143,21 +185,11 @@ product-assoc a b c =
   where
     bytes : (a b c : ℕ) → a < 256 → b < 256 → c < 256 → product (product a b) c ≡ product a (product b c)
     bytes a b c ha hb hc =
-        agree (λ x. product (product x b) c) (λ x. product x (product b c))
-        (additive-after (λ x. product x c) (λ x. product x b) (product-left c) (product-left b)) (product-left (product b c)) 8
-        (λ i hi.
-        agree (λ y. product (product (2 ^ i) y) c) (λ y. product (2 ^ i) (product y c))
-        (additive-after (λ x. product x c) (product (2 ^ i)) (product-left c) (product-right (2 ^ i)))
-        (additive-after (product (2 ^ i)) (λ y. product y c) (product-right (2 ^ i)) (product-left c)) 8
-        (λ j hj.
-        agree (product (product (2 ^ i) (2 ^ j))) (λ z. product (2 ^ i) (product (2 ^ j) z))
-        (product-right (product (2 ^ i) (2 ^ j)))
-        (additive-after (product (2 ^ i)) (product (2 ^ j)) (product-right (2 ^ i)) (product-right (2 ^ j))) 8
-        (same-at 8 (λ k. product (product (2 ^ i) (2 ^ j)) (2 ^ k)) (λ k. product (2 ^ i) (product (2 ^ j) (2 ^ k)))
-        (all-at 8 (assoc-at i) (all-at 8 (λ i. all 8 (assoc-at i)) assoc-tested i hi) j hj))
-        c hc)
-        b hb)
-        a ha
+        agree (product (product a b)) (λ z. product a (product b z)) (product-right (product a b))
+        (additive-after (product a) (product b) (product-right a) (product-right b)) 8
+        (λ k hk.
+        by-power k (product a b) hk (product-lt a b) ∙ sym (doubled-out k a b ha hb) ∙ ap (product a) (sym (by-power k b hk hb)))
+        c hc
 
 one-tested : T (same 8 (λ i. product 1 (2 ^ i)) (λ i. 2 ^ i))
 unfolding product carryless remainder

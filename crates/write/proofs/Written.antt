@@ -23,8 +23,8 @@ use Rattle.shape.proofs.Columns.{columns-count, columns-as, columns-then, colum
 use Rattle.stretch.specs.Stretch.{Has, columnOf, setOn}
 use Rattle.stretch.proofs.Laws.{has-same, seen, set-columns, set-two}
 use Rattle.write.specs.Write.{covers}
-use Rattle.write.specs.declared.Parities.{Parities}
-use Rattle.write.specs.Changed.{changedBy}
+use Rattle.change.specs.declared.Parities.{Parities}
+use Rattle.change.specs.Changed.{changedBy}
 
 pub stretch-lift : {g : Geometry} {offset count : ℕ} {f : ℕ → Column → Column} {s t : List ℕ} → WellShaped g s → offset + count ≤ g .b
     → ColumnsMapped g offset count f s t

@@ -7,18 +7,11 @@ ghost use Prim.Native.Nat.{_+_, _<_, _≤_};
 ghost use lib.ListN.{length, getD};
 ghost use Rattle.gf256.specs.Field.{power};
 ghost use Rattle.chunk.specs.Chunk.{width};
-ghost use Rattle.column.specs.Column.{put, reedSolomon, writeColumn};
+ghost use Rattle.column.specs.Column.{reedSolomon, writeColumn};
 ghost use Rattle.shape.specs.Refusals.{WellShaped};
 ghost use Rattle.shape.specs.Columns.{ColumnsMapped};
 ghost use Rattle.stretch.specs.Stretch.{Has};
 ghost use Rattle.write.specs.Write.{WriteCall};
-ghost use Rattle.write.specs.Changed.{changedBy};
-
-// P and Q of a chunk of columns.
-pub struct Parities {
-    pub p: [u8; WIDTH],
-    pub q: [u8; WIDTH],
-}
 
 // Sets a stretch of one data disk, and adds what changed to P and Q, also where the stripe is not
 // encoded.
@@ -62,7 +55,7 @@ fn write_chunk(g: Geometry, stripe: &mut [u8], disk: usize, i: usize, c: Element
     let p = stretch::load(g, stripe, g.n, i, WIDTH);
     let q = stretch::load(g, stripe, g.n + 1, i, WIDTH);
     let new = chunk::load(new);
-    let after = changed(c, old, new, p, q);
+    let after = change::changed(c, old, new, p, q);
     let p = after.p;
     let q = after.q;
     stretch::set(g, stripe, g.n + 1, i, WIDTH, q);
@@ -80,29 +73,10 @@ fn write_part(g: Geometry, stripe: &mut [u8], disk: usize, i: usize, c: Element,
     let p = stretch::load(g, stripe, g.n, i, w);
     let q = stretch::load(g, stripe, g.n + 1, i, w);
     let new = chunk::load(new);
-    let after = changed(c, old, new, p, q);
+    let after = change::changed(c, old, new, p, q);
     let p = after.p;
     let q = after.q;
     stretch::set(g, stripe, g.n + 1, i, w, q);
     stretch::set(g, stripe, g.n, i, w, p);
     stretch::set(g, stripe, disk, i, w, new);
-}
-
-// P and Q of a chunk after the bytes of a disk with the coefficient c change from old to new.
-pub fn changed(
-    c: Element,
-    old: [u8; WIDTH],
-    new: [u8; WIDTH],
-    p: [u8; WIDTH],
-    q: [u8; WIDTH],
-) -> Parities
-    ensures { λ r. ⌜ r ≡ changedBy (c .0) old new p q ⌝ }
-{
-    let mut change = old;
-    chunk::add(&mut change, &new);
-    let mut p = p;
-    chunk::add(&mut p, &change);
-    let mut q = q;
-    products::add_product(&mut q, c, change);
-    Parities { p, q }
 }

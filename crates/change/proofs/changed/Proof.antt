@@ -1,4 +1,4 @@
--- `write::changed` meets its contract: place by place, each step is the definition's own.
+-- `change::changed` meets its contract: place by place, each step is the definition's own.
 -- Assumes nothing.
 use borrow.Author.Needs.{needs}
 use mathlib.Core.Path.{_≡_, ap₂, _∙_}
@@ -9,10 +9,10 @@ use Rattle.base.proofs.Table.{getD-tabulate, tabulate-same}
 use Rattle.gf256.specs.Field.{sum, product}
 use Rattle.chunk.specs.Chunk.{width, plus}
 use Rattle.products.specs.Products.{plusProduct}
-use Rattle.write.specs.declared.Parities.{Parities}
-use Rattle.write.specs.Changed.{changedBy}
-use Rattle.write.proofs.changed.Statement.{statement}
-use Rattle.write.proofs.changed.Tie as tie
+use Rattle.change.specs.declared.Parities.{Parities}
+use Rattle.change.specs.Changed.{changedBy}
+use Rattle.change.proofs.changed.Statement.{statement}
+use Rattle.change.proofs.changed.Tie as tie
 
 -- the steps: what changed, added to P and, times the coefficient, to Q
 steps : (c : ℕ) (old new p q : List ℕ) {change p′ q′ : List ℕ} → change ≡ plus old new → p′ ≡ plus p change → q′ ≡ plusProduct q c change

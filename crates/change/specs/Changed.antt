@@ -4,7 +4,7 @@ use mathlib.Core.List.{List}
 use lib.ListN.{getD}
 use Rattle.gf256.specs.Field.{sum, product}
 use Rattle.chunk.specs.Chunk.{each}
-use Rattle.write.specs.declared.Parities.{Parities}
+use Rattle.change.specs.declared.Parities.{Parities}
 
 -- P and Q of a chunk, place by place, after the bytes of a disk with the coefficient c change from old to new
 abbrev pub changedBy : ℕ → List ℕ → List ℕ → List ℕ → List ℕ → Parities
