@@ -16,6 +16,7 @@ use Rattle.shape.specs.Refusals.{encodeRefusal, WellShaped}
 abbrev pub hasColumns : Geometry → ℕ → ℕ → ℕ → Bool
 hasColumns g len i w = both (eqb (encodeRefusal g len) 0) (both (leb w (g .b)) (both (leb i (g .b - w)) (leb w width)))
 
+-- the same as facts: what private functions suppose; no public contract rests on it
 pub record Has (g : Geometry) (s : List ℕ) (i w : ℕ) : Type 0 where
   pub shaped : WellShaped g s
   pub fits : i + w ≤ g .b

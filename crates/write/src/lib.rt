@@ -47,7 +47,7 @@ fn write_chunk(g: Geometry, stripe: &mut [u8], disk: usize, i: usize, c: Element
     requires { ⌜ Has g (now stripe) i (length (now new)) × (disk < g .n) × (c .0 ≡ power 2 disk) × (length (now new) ≡ width) ⌝ }
     ensures { λ _. ⌜ ColumnsMapped g i (length (now (new .entry))) (λ j col. writeColumn reedSolomon (g .n) disk (getD (now (new .entry)) j 0) col) (now (stripe .entry)) (now (stripe .exit)) ⌝ }
 {
-    // They are there. Tested here, the calls' own tests of it cost nothing.
+    // The columns are there. Tested once here, they cost no test in the six calls below.
     if !stretch::has_columns(g, stripe.len(), i, WIDTH) {
         return;
     }
