@@ -6,9 +6,8 @@ use lib.ListN.{length}
 use Rattle.base.specs.Refusal.{Answer, answered}
 use Rattle.shape.specs.declared.Geometry.{Geometry}
 use Rattle.shape.specs.Refusals.{checkRefusal}
-use Rattle.stripe.specs.Stripe.{verdicts}
+use Rattle.compare.specs.Compare.{verdicts, afterCheck}
 use Rattle.verdict.specs.Summary.{summary}
-use Rattle.stripe.specs.Calls.{afterCheck}
 
 -- the value, a summary of at most 270; where there is none, 512 and the refusal's number
 abbrev pub valueOr : ℕ → List ℕ → ℕ

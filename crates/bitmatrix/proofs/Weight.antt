@@ -3,7 +3,7 @@
 use Prim.Native.Nat.{ℕ, _*_, _≤_}
 use Rattle.matrix.specs.Fold.{sum}
 use Rattle.matrix.specs.Matrix.{weight}
-use Rattle.bitmatrix.specs.Judge.{Code, X}
+use Rattle.findings.specs.Findings.{Code, X}
 use Rattle.matrix.proofs.Fold.{sum-le}
 use Rattle.matrix.proofs.Weight.{rows-le}
 

@@ -13,9 +13,8 @@ use Rattle.column.specs.declared.Device.the-variants.{Data, P, Q}
 use Rattle.column.specs.declared.Lost.the-variants.{One}
 use Rattle.column.specs.Column.{Column, put, roleOf, Encoded, reedSolomon, verdict}
 use Rattle.shape.specs.Layout.{column}
-use Rattle.stripe.specs.Stripe.{verdicts}
+use Rattle.compare.specs.Compare.{verdicts, afterCheck}
 use Rattle.shape.specs.Refusals.{checkRefusal}
-use Rattle.stripe.specs.Calls.{afterCheck}
 use Rattle.base.proofs.Refused.{left-done}
 use Rattle.base.proofs.Table.{getD-tabulate}
 use Rattle.shape.proofs.Refused.{well-shaped, check-accepted}

@@ -1,9 +1,9 @@
 // Runs the bench figures and prints a table: the case, the value that it must give, the value that
 // the code gives, and whether they agree.
-use bitmatrix::Finding;
 use bitmatrix::Judgement;
 use column::Device;
 use column::Lost;
+use findings::Finding;
 use gf256::Element;
 use shape::Geometry;
 use stripe::Checked;

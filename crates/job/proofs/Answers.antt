@@ -10,7 +10,8 @@ use lib.ListN.{length, take}
 use Rattle.column.specs.declared.Lost.{Lost}
 use Rattle.devices.specs.declared.Naming.{Naming}
 use Rattle.devices.specs.declared.Naming.the-variants.{Loss, Wrong}
-use Rattle.stripe.specs.Stripe.{encoded, rebuilt, verdicts}
+use Rattle.compare.specs.Compare.{verdicts}
+use Rattle.stripe.specs.Stripe.{encoded, rebuilt}
 use Rattle.verdict.specs.Summary.{summary}
 use Rattle.base.specs.Refusal.{unlessRefused}
 use Rattle.base.proofs.Refused.{left-alone}

@@ -12,7 +12,8 @@ use Rattle.shape.specs.declared.Geometry.{Geometry}
 use Rattle.devices.specs.declared.Naming.{Naming}
 use Rattle.devices.specs.declared.Naming.the-variants.{Loss, Wrong}
 use Rattle.column.specs.Column.{reedSolomon, encodeColumn, rebuildColumn}
-use Rattle.stripe.specs.Stripe.{encoded, rebuilt, verdicts}
+use Rattle.compare.specs.Compare.{verdicts}
+use Rattle.stripe.specs.Stripe.{encoded, rebuilt}
 use Rattle.shape.specs.Refusals.{library, shapeRefusals, encodeRefusal}
 use Rattle.devices.specs.Refusals.{unknownLost, twice, lossRefusals, rebuildRefusal}
 use Rattle.stripe.specs.Calls.{afterEncode, afterRebuild, rebuiltBy}

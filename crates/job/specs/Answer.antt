@@ -9,7 +9,8 @@ use Rattle.shape.specs.declared.Geometry.{Geometry}
 use Rattle.devices.specs.declared.Naming.{Naming}
 use Rattle.devices.specs.declared.Naming.the-variants.{Loss, Wrong}
 use Rattle.base.specs.Choice.{choose}
-use Rattle.stripe.specs.Stripe.{encoded, rebuilt, verdicts}
+use Rattle.compare.specs.Compare.{verdicts}
+use Rattle.stripe.specs.Stripe.{encoded, rebuilt}
 use Rattle.base.specs.Refusal.{unlessRefused}
 use Rattle.header.specs.Fields.{bigEndian}
 use Rattle.header.specs.Header.{mark, commandOf, geometryOf, lossNamed, stripeOf}

@@ -2,7 +2,7 @@
 -- Assumes nothing.
 use mathlib.Core.Path.{_≡_, refl}
 use lib.ListN.{length}
-use Rattle.bitmatrix.specs.declared.Finding.the-variants.{Fit, Singular, Pair}
+use Rattle.findings.specs.declared.Finding.the-variants.{Fit, Singular, Pair}
 use Rattle.bitmatrix.specs.declared.Judgement.{Judgement}
 use Rattle.bitmatrix.specs.declared.Judgement.the-variants.{Refused, Judged}
 use Rattle.judge_answer.specs.Answer.{answerBytes}

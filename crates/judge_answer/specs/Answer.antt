@@ -2,8 +2,8 @@
 use mathlib.Core.List.{List, [], _∷_, _++_}
 use Prim.Native.Nat.{ℕ, _/_, _%_}
 use Rattle.base.specs.Choice.{choose}
-use Rattle.bitmatrix.specs.declared.Finding.{Finding}
-use Rattle.bitmatrix.specs.declared.Finding.the-variants.{Fit, Singular, Pair}
+use Rattle.findings.specs.declared.Finding.{Finding}
+use Rattle.findings.specs.declared.Finding.the-variants.{Fit, Singular, Pair}
 use Rattle.bitmatrix.specs.declared.Judgement.{Judgement}
 use Rattle.bitmatrix.specs.declared.Judgement.the-variants.{Refused, Judged}
 

@@ -1,6 +1,6 @@
 // The bytes that answer a judgement of the judge of bit-matrix codes.
-use bitmatrix::Finding;
 use bitmatrix::Judgement;
+use findings::Finding;
 ghost use mathlib.Core.Path.{_≡_};
 ghost use Rattle.base.specs.Choice.{choose};
 ghost use Rattle.judge_answer.specs.Answer.{answerBytes};

@@ -5,7 +5,7 @@ use lib.Dec.{ltb}
 use lib.ListN.{length, getD, replicate}
 use Rattle.base.specs.Choice.{choose}
 use Rattle.matrix.specs.Matrix.{Matrix}
-use Rattle.bitmatrix.specs.Judge.{Code}
+use Rattle.findings.specs.Findings.{Code}
 
 -- the matrix whose eight rows stand at a place
 abbrev pub matrixAt : List ℕ → ℕ → Matrix

@@ -13,7 +13,7 @@ use Rattle.column.specs.Column.{verdict}
 use Rattle.shape.specs.declared.Geometry.{Geometry}
 use Rattle.shape.specs.Layout.{column}
 use Rattle.shape.specs.Refusals.{encodeRefusal}
-use Rattle.stripe.specs.Stripe.{verdicts}
+use Rattle.compare.specs.Compare.{verdicts}
 use Rattle.verdict.specs.Summary.{summary}
 use Rattle.header.proofs.Fielded.{length-fields}
 use Rattle.report.specs.Report.{report, afterReport}

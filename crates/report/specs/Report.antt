@@ -7,7 +7,7 @@ use Rattle.base.specs.Choice.{choose}
 use Rattle.base.specs.Refusal.{unlessRefused}
 use Rattle.shape.specs.declared.Geometry.{Geometry}
 use Rattle.shape.specs.Refusals.{encodeRefusal}
-use Rattle.stripe.specs.Stripe.{verdicts}
+use Rattle.compare.specs.Compare.{verdicts}
 use Rattle.verdict.specs.Summary.{summary}
 use Rattle.header.specs.Fields.{fields}
 

@@ -5,7 +5,7 @@ ghost use mathlib.Core.Path.{_≡_};
 ghost use Prim.Native.Nat.{_+_, _*_};
 ghost use lib.ListN.{length};
 ghost use Rattle.shape.specs.Refusals.{encodeRefusal};
-ghost use Rattle.stripe.specs.Stripe.{verdicts};
+ghost use Rattle.compare.specs.Compare.{verdicts};
 ghost use Rattle.header.specs.Fields.{fields};
 ghost use Rattle.report.specs.Report.{report, afterReport};
 

@@ -4,16 +4,17 @@ use mathlib.Core.Path.{_≡_, refl, sym, ap, _∙_}
 use mathlib.Core.Logic.{_≢_}
 use mathlib.Core.List.{List, [], _∷_}
 use Prim.Native.Nat.{ℕ, zero, suc}
+use borrow.Author.Tests.{eq-eqb}
 use lib.ListN.{length}
 use Rattle.base.specs.Refusal.{answered}
-use Rattle.base.proofs.Refused.{leaves-alone, leaves-done}
+use Rattle.base.proofs.Refused.{leaves-alone}
 use Rattle.shape.specs.declared.Geometry.{Geometry}
 use Rattle.shape.specs.Refusals.{checkRefusal}
 use Rattle.stripe.specs.declared.Checked.{Checked}
 use Rattle.stripe.specs.declared.Checked.the-variants.{Refused, Summary}
-use Rattle.stripe.specs.Stripe.{verdicts}
+use Rattle.compare.specs.Compare.{verdicts, afterCheck, CompareCall}
 use Rattle.verdict.specs.Summary.{summary}
-use Rattle.stripe.specs.Calls.{answerOf, checkedOf, afterCheck, CheckCall}
+use Rattle.stripe.specs.Calls.{answerOf, checkedOf, CheckCall}
 
 checked-refused : (k v : ℕ) → k ≢ 0 → checkedOf k v ≡ Refused k
 checked-refused zero v n = absurd (n refl)
@@ -37,8 +38,7 @@ module _ (g : Geometry) (s before : List ℕ) where
       (sym (checked-refused k (summary (verdicts g s)) n) ∙ ap (λ (k : ℕ). checkedOf k (summary (verdicts g s))) e)
       (leaves-alone (verdicts g s) before e n)
 
-  pub check-done : {k : ℕ} (v : ℕ) (after : List ℕ) → k ≡ refusal → k ≡ 0 → v ≡ summary (verdicts g s) → after ≡ verdicts g s
-      → CheckCall g s before (Summary v) after
-  unfolding afterCheck
-  check-done v after e none same h =
-      called (Summary v) after (ap Summary same ∙ sym (ap (λ (k : ℕ). checkedOf k (summary (verdicts g s))) (sym e ∙ none))) (leaves-done (verdicts g s) before e none h)
+  pub check-done : {k v : ℕ} {after : List ℕ} → k ≡ refusal → k ≡ 0 → CompareCall g s before v after → CheckCall g s before (Summary v) after
+  check-done e none h =
+      let accepted = sym e ∙ none in
+      called (Summary _) _ (ap Summary (rw (eq-eqb _ _ accepted) at (h .result)) ∙ sym (ap (λ (k : ℕ). checkedOf k (summary (verdicts g s))) accepted)) (h .room)

@@ -12,7 +12,8 @@ use Rattle.base.specs.Refusal.{unlessRefused, Answer, answered}
 use Rattle.stripe.specs.declared.Checked.{Checked}
 use Rattle.stripe.specs.declared.Checked.the-variants.{Refused, Summary}
 use Rattle.verdict.specs.Summary.{summary}
-use Rattle.stripe.specs.Stripe.{encoded, rebuilt, verdicts}
+use Rattle.compare.specs.Compare.{verdicts, afterCheck}
+use Rattle.stripe.specs.Stripe.{encoded, rebuilt}
 use Rattle.shape.specs.Refusals.{encodeRefusal, checkRefusal}
 use Rattle.devices.specs.Refusals.{rebuildRefusal}
 
@@ -27,10 +28,6 @@ afterRebuild g lost s = unlessRefused (rebuildRefusal g (length s) lost) (rebuil
 abbrev pub rebuiltBy : Geometry → Naming → List ℕ → List ℕ
 rebuiltBy g (Loss lost) s = afterRebuild g lost s
 rebuiltBy g Wrong s = s
-
--- the verdict buffer after a check
-unfoldable pub afterCheck : Geometry → List ℕ → List ℕ → List ℕ
-afterCheck g s room = unlessRefused (checkRefusal g (length s) (length room)) (verdicts g s) room
 
 -- A check's answer in numbers: a refusal is its number alone, and with result 0 comes the summary.
 abbrev pub answerOf : Checked → Answer

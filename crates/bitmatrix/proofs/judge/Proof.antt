@@ -5,10 +5,12 @@ use mathlib.Core.Bool.{Bool, _&&_}
 use Prim.Native.Nat.{ℕ, zero, suc, _*_, _-_, _≤_}
 use lib.Dec.{eqb}
 use Rattle.base.specs.Refusal.{answered}
+use native.Mathlib.Omega.{arith}
 use borrow.Author.Needs.{needs}
 use borrow.Author.Tests.{eq-eqb, ne-eqb, lt-ltb, le-ltb}
-use Rattle.bitmatrix.specs.Judge.{Code, finding, ones, minimal, refusal, answerOf, refusedOr, judged, Judges}
-use Rattle.bitmatrix.specs.declared.Finding.{Finding}
+use Rattle.findings.specs.Findings.{Code, finding}
+use Rattle.findings.specs.declared.Finding.{Finding}
+use Rattle.bitmatrix.specs.Judge.{ones, minimal, refusal, answerOf, refusedOr, judged, Judges}
 use Rattle.bitmatrix.specs.declared.Judgement.{Judgement}
 use Rattle.bitmatrix.specs.declared.Judgement.the-variants.{Judged}
 use Rattle.bitmatrix.proofs.judge.Statement.{statement}
@@ -54,7 +56,7 @@ answers : (c : tie.After-is-fit) (b d : Bool) → c .is-fit .result ≡ b
     (Judged (c .before .before .find .result) (c .before .ones-of .result) d)
 answers c b d e t =
     let here = c .before .before .before in
-    promised (done _ _ (here .before .if1 .left) (here .if2 .left) (c .before .before .find .ensures) (c .before .ones-of .ensures) (rw (← c .is-fit .ensures, e) t))
+    promised (done _ _ (here .before .if1 .left) (here .if2 .left) (c .before .before .find .ensures ∙ ap (finding _) (omega arith)) (c .before .ones-of .ensures) (rw (← c .is-fit .ensures, e) t))
 
 returns-3 : tie.Need-returns-3
 returns-3 c = answers (c .before) _ _ (c .if3 .taken) refl

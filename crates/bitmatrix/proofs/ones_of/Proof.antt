@@ -6,7 +6,8 @@ use native.Mathlib.Omega.{arith}
 use borrow.Author.Needs.{needs}
 use Rattle.matrix.specs.Fold.{fold, sum}
 use Rattle.matrix.specs.Matrix.{weight}
-use Rattle.bitmatrix.specs.Judge.{X, ones}
+use Rattle.findings.specs.Findings.{X}
+use Rattle.bitmatrix.specs.Judge.{ones}
 use Rattle.matrix.proofs.Fold.{fold-more}
 use Rattle.bitmatrix.proofs.Weight.{matrices-le}
 use Rattle.bitmatrix.proofs.ones_of.Statement.{statement}

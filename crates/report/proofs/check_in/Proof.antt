@@ -8,9 +8,9 @@ use borrow.Author.Needs.{needs}
 use borrow.Author.Tests.{eq-eqb}
 use lib.ListN.{length, take, drop}
 use Rattle.stripe.specs.declared.Checked.the-variants.{Summary}
-use Rattle.stripe.specs.Calls.{checkedOf, afterCheck}
+use Rattle.stripe.specs.Calls.{checkedOf}
 use Rattle.shape.specs.Refusals.{library, shapeRefusals, refusal7, checkRefusal}
-use Rattle.stripe.specs.Stripe.{verdicts}
+use Rattle.compare.specs.Compare.{verdicts, afterCheck}
 use Rattle.verdict.specs.Summary.{summary}
 use Rattle.base.proofs.Refused.{first-passed, left-done}
 use Rattle.header.specs.Fields.{bigEndian, fields}

@@ -1,9 +1,6 @@
--- `stripe::check` meets its contract: its refusal, then the columns.
+-- `stripe::check` meets its contract: its refusal, then what the comparison finds.
 -- Assumes nothing.
 use borrow.Author.Needs.{needs}
-use mathlib.Core.Path.{sym, _∙_}
-use lib.ListN.{length}
-use Rattle.shape.proofs.Refused.{well-shaped, check-accepted}
 use Rattle.stripe.proofs.Calls.{check-refused, check-done}
 use Rattle.stripe.proofs.check.Statement.{statement}
 use Rattle.stripe.proofs.check.Tie as tie
@@ -16,22 +13,18 @@ returns c =
     let a = c .before .before .before .before .args in
     check-refused (a .g) (a .stripe .now) (a .verdicts .now) (c .before .check-refusal .result) (c .before .check-refusal .ensures) (c .if1 .taken)
 
-check-columns-requires : tie.Need-check-columns-requires
-check-columns-requires c κs =
-    let a = c .before .before .before .before .before .args in
-    let accepted = check-accepted (a .g) (length (a .stripe .now)) (length (a .verdicts .now)) (sym (c .before .before .check-refusal .ensures) ∙ c .before .if1 .left) in
-    (well-shaped (a .g) (a .stripe .now) (accepted .0), accepted .1)
+compare-requires : tie.Need-compare-requires
+compare-requires c κs = search needs
 
 same-length : tie.Need-same-length
-same-length c = c .before .before .check-columns .kept .1 .1 .0
+same-length c = search needs
 
 returns-2 : tie.Need-returns-2
 returns-2 c =
     let a = c .before .before .before .before .before .before .before .before .args in
-    let found = c .before .before .check-columns .ensures in
-    check-done (a .g) (a .stripe .now) (a .verdicts .now) _ _ (c .before .before .before .before .before .check-refusal .ensures) (c .before .before .before .before .if1 .left) (found .result) (found .room)
+    check-done (a .g) (a .stripe .now) (a .verdicts .now) (c .before .before .before .before .before .check-refusal .ensures) (c .before .before .before .before .if1 .left) (c .before .before .compare .ensures)
 
 pub check-spec : {M : Type 1} → statement M
 check-spec =
     tie.close
-    (tie.spec check-refusal-requires returns check-columns-requires same-length returns-2)
+    (tie.spec check-refusal-requires returns compare-requires same-length returns-2)

@@ -1,0 +1,30 @@
+-- What a check finds: the verdict on every column, and their summary.
+use Prim.Native.Nat.{ℕ}
+use mathlib.Core.Path.{_≡_}
+use mathlib.Core.List.{List}
+use lib.Dec.{eqb}
+use lib.ListN.{length}
+use Rattle.base.specs.Choice.{choose}
+use Rattle.base.specs.Refusal.{unlessRefused}
+use Rattle.base.specs.Table.{tabulate}
+use Rattle.column.specs.Column.{verdict}
+use Rattle.shape.specs.declared.Geometry.{Geometry}
+use Rattle.shape.specs.Layout.{column}
+use Rattle.shape.specs.Refusals.{checkRefusal}
+use Rattle.verdict.specs.Summary.{summary}
+
+-- the verdict on every column
+abbrev pub verdicts : Geometry → List ℕ → List ℕ
+verdicts g s = tabulate (g .b) (λ i. verdict (g .n) (column g s i))
+
+-- the verdict buffer after a check
+unfoldable pub afterCheck : Geometry → List ℕ → List ℕ → List ℕ
+afterCheck g s room = unlessRefused (checkRefusal g (length s) (length room)) (verdicts g s) room
+
+-- the summary, which a refused check has not
+abbrev pub found : Geometry → List ℕ → List ℕ → ℕ
+found g s room = choose (eqb (checkRefusal g (length s) (length room)) 0) (summary (verdicts g s)) 0
+
+pub record CompareCall (g : Geometry) (s before : List ℕ) (r : ℕ) (after : List ℕ) : Type 0 where
+  pub result : r ≡ found g s before
+  pub room : after ≡ afterCheck g s before

@@ -1,0 +1,66 @@
+// The stored parities of a stripe held against those that its data give: a verdict for each column, and their summary. The columns are worked
+// on in chunks; the last may be a part of one.
+use chunk::WIDTH;
+use shape::Geometry;
+ghost use mathlib.Core.Path.{_≡_};
+ghost use Prim.Native.Nat.{_+_};
+ghost use lib.ListN.{length};
+ghost use Rattle.base.specs.Table.{tabulate};
+ghost use Rattle.column.specs.Column.{verdict};
+ghost use Rattle.chunk.specs.Chunk.{width};
+ghost use Rattle.shape.specs.Layout.{column};
+ghost use Rattle.shape.specs.Refusals.{WellShaped};
+ghost use Rattle.stretch.specs.Stretch.{Has};
+ghost use Rattle.verdict.specs.Summary.{WithSummary};
+ghost use Rattle.compare.specs.Compare.{verdicts, CompareCall};
+
+// Fills the room with the verdicts and answers their summary. Where a check is refused: 0, and the room stays.
+pub fn compare(g: Geometry, stripe: &[u8], room: &mut [u16]) -> u16
+    ensures { λ r. ⌜ CompareCall g (now (stripe .entry)) (now (room .entry)) r (now (room .exit)) ⌝ }
+{
+    if shape::check_refusal(g, stripe.len(), room.len()) != 0 {
+        return 0;
+    }
+    check_columns(g, stripe, room)
+}
+
+fn check_columns(g: Geometry, stripe: &[u8], room: &mut [u16]) -> u16
+    requires { ⌜ WellShaped g (now stripe) × (length (now room) ≡ g .b) ⌝ }
+    ensures { λ r. ⌜ WithSummary (verdicts g (now (stripe .entry))) r (now (room .exit)) ⌝ }
+{
+    let mut found = 0;
+    let mut i = 0;
+    while WIDTH <= g.b - i {
+        found = verdict::joined(found, check_chunk(g, stripe, i, &mut room[i..i + WIDTH]));
+        i += WIDTH;
+    }
+    if i < g.b {
+        found = verdict::joined(found, check_part(g, stripe, i, &mut room[i..]));
+    }
+    found
+}
+
+// Stored plus recomputed, and what the differences say.
+fn check_chunk(g: Geometry, stripe: &[u8], i: usize, room: &mut [u16]) -> u16
+    requires { ⌜ Has g (now stripe) i width × (length (now room) ≡ width) ⌝ }
+    ensures { λ r. ⌜ WithSummary (tabulate (length (now (room .entry))) (λ j. verdict (g .n) (column g (now (stripe .entry)) (i + j)))) r (now (room .exit)) ⌝ }
+{
+    let s = sums::parities(g, stripe, i);
+    let mut p = s.p;
+    let mut q = s.q;
+    let d = stretch::load(g, stripe, g.n, i, WIDTH);
+    chunk::add(&mut p, &d);
+    let d = stretch::load(g, stripe, g.n + 1, i, WIDTH);
+    chunk::add(&mut q, &d);
+    verdict::verdicts_of(g.n, &p, &q, room)
+}
+
+fn check_part(g: Geometry, stripe: &[u8], i: usize, room: &mut [u16]) -> u16
+    requires { ⌜ Has g (now stripe) i (length (now room)) ⌝ }
+    ensures { λ r. ⌜ WithSummary (tabulate (length (now (room .entry))) (λ j. verdict (g .n) (column g (now (stripe .entry)) (i + j)))) r (now (room .exit)) ⌝ }
+{
+    let s = sums::part_survivors(g, stripe, i, room.len(), g.n + 2, g.n + 2);
+    let p = s.p;
+    let q = s.q;
+    verdict::verdicts_by_place(g.n, &p, &q, room)
+}
