@@ -21,7 +21,7 @@ verdicts g s = tabulate (g .b) (λ i. verdict (g .n) (column g s i))
 unfoldable pub afterCheck : Geometry → List ℕ → List ℕ → List ℕ
 afterCheck g s room = unlessRefused (checkRefusal g (length s) (length room)) (verdicts g s) room
 
--- the summary, which a refused check has not
+-- the summary; 0 where the check is refused
 abbrev pub found : Geometry → List ℕ → List ℕ → ℕ
 found g s room = choose (eqb (checkRefusal g (length s) (length room)) 0) (summary (verdicts g s)) 0
 

@@ -1,6 +1,5 @@
 -- What is wrong with a bit-matrix code: a list of matrices X 0, X 1, .., of which the first `count` are looked at.
 -- Fit is the cone of 000's definition 3.1.1, taken over the places of the list. Assumes nothing.
-use mathlib.Core.Path.{_≡_}
 use mathlib.Core.Bool.{Bool, true, false, _&&_}
 use mathlib.Core.List.{List, [], _∷_}
 use Prim.Native.Nat.{ℕ}

@@ -1,7 +1,6 @@
 -- `findings::find` meets its contract: it looks at no more than the eight matrices that there are.
 -- Assumes nothing.
-use mathlib.Core.Path.{_≡_, sym, ap, _∙_}
-use Prim.Native.Nat.{ℕ, min}
+use mathlib.Core.Path.{ap, _∙_}
 use borrow.Author.Needs.{needs}
 use native.Mathlib.Omega.{arith}
 use Rattle.findings.specs.Findings.{finding}
