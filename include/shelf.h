@@ -39,14 +39,14 @@ extern "C" {
 #endif
 
 /* This header's version, and its parts. */
-#define SHELF_VERSION "0.1.0"
+#define SHELF_VERSION "0.2.0"
 #define SHELF_VERSION_MAJOR 0
-#define SHELF_VERSION_MINOR 1
+#define SHELF_VERSION_MINOR 2
 #define SHELF_VERSION_PATCH 0
 
 /* The largest n and the largest b. */
 #define SHELF_MAX_DISKS 255
-#define SHELF_MAX_BLOCK 4096
+#define SHELF_MAX_BLOCK 65536
 
 /* Has the compiler warn where a result is ignored; empty where it can't. */
 #if (defined(__cplusplus) && __cplusplus >= 201703L) || (defined(__STDC_VERSION__) && __STDC_VERSION__ >= 202311L)
@@ -60,7 +60,7 @@ extern "C" {
 /* Results. */
 #define SHELF_DONE 0
 #define SHELF_BAD_DISKS 1    /* n is 0 or above 255 */
-#define SHELF_BAD_BLOCK 2    /* b is 0 or above 4096 */
+#define SHELF_BAD_BLOCK 2    /* b is 0 or above 65536 */
 #define SHELF_BAD_LENGTH 3   /* stripe_len isn't (n + 2) * b */
 #define SHELF_BAD_DEVICE 4   /* a data disk is n or more, or a device code has no meaning or is missing */
 #define SHELF_SAME_DEVICE 5  /* the same device twice */
@@ -75,13 +75,13 @@ extern "C" {
  * Computes P and Q from the data.
  *
  *   n           data disks, 1 to 255
- *   b           block size in bytes, 1 to 4096
+ *   b           block size in bytes, 1 to 65536
  *   stripe      the stripe: P and Q are written, whatever stood there; the data are read and stay
  *   stripe_len  (n + 2) * b
  *
  * Refusals, in order:
  *   1  n is 0 or above 255
- *   2  b is 0 or above 4096
+ *   2  b is 0 or above 65536
  *   3  stripe_len isn't (n + 2) * b
  */
 SHELF_USE_RESULT
@@ -93,7 +93,7 @@ uint8_t shelf_encode(uint64_t n, uint64_t b, uint8_t *stripe, size_t stripe_len)
  * equations as it was.
  *
  *   n           data disks, 1 to 255
- *   b           block size in bytes, 1 to 4096
+ *   b           block size in bytes, 1 to 65536
  *   stripe      the stripe: written at the stretch and at its columns of P and Q; no other byte changes
  *   stripe_len  (n + 2) * b
  *   disk        the data disk, 0 to n - 1
@@ -104,7 +104,7 @@ uint8_t shelf_encode(uint64_t n, uint64_t b, uint8_t *stripe, size_t stripe_len)
  *
  * Refusals, in order:
  *   1  n is 0 or above 255
- *   2  b is 0 or above 4096
+ *   2  b is 0 or above 65536
  *   3  stripe_len isn't (n + 2) * b
  *   4  disk is n or more
  *   6  offset is above b, or count is above b - offset
@@ -128,7 +128,7 @@ uint8_t shelf_write(uint64_t n, uint64_t b, uint8_t *stripe, size_t stripe_len, 
  * the equation that was used.
  *
  *   n           data disks, 1 to 255
- *   b           block size in bytes, 1 to 4096
+ *   b           block size in bytes, 1 to 65536
  *   stripe      the stripe: the blocks of the named devices are written
  *   stripe_len  (n + 2) * b
  *   first       a device: a data disk 0 to n - 1, SHELF_P or SHELF_Q
@@ -136,7 +136,7 @@ uint8_t shelf_write(uint64_t n, uint64_t b, uint8_t *stripe, size_t stripe_len, 
  *
  * Refusals, in order:
  *   1  n is 0 or above 255
- *   2  b is 0 or above 4096
+ *   2  b is 0 or above 65536
  *   3  stripe_len isn't (n + 2) * b
  *   4  first is no device of this stripe (SHELF_NONE is none), or second is neither one nor SHELF_NONE
  *   5  first and second are the same device

@@ -13,7 +13,7 @@ use Rattle.shape.proofs.Refused.{well-shaped}
 use Rattle.base.proofs.Choice.{below-or-not}
 use Rattle.header.specs.Header.{commandOf, geometryOf, stripeOf}
 use Rattle.header.specs.Refusals.{jobRefusal}
-use Rattle.header.proofs.Accepted.{accepted}
+use Rattle.header.proofs.Accepted.{accepted, columns-most}
 use Rattle.header.proofs.Headed.{refusal-past-limit, too-long}
 use Rattle.job.specs.Answer.{opening, answerTo, AnswerCall}
 use Rattle.job.proofs.Bodies.{length-check, length-stripe}
@@ -25,9 +25,7 @@ pub answer-most : (job : List ℕ) → length (answerTo job) ≤ outputSize
 answer-most job = go (ℕ-discrete (jobRefusal job) 0)
   where
     of : jobRefusal job ≡ 0 → Dec (commandOf job ≡ 3) → length (answerTo job) ≤ outputSize
-    of e (yes is) =
-        let whole = well-shaped (geometryOf job) (stripeOf job) (accepted job e .shape) in
-        omega (arith, length-accepted job e, length-check job is)
+    of e (yes is) = omega (arith, length-accepted job e, length-check job is, columns-most (accepted job e))
     of e (no p) =
         let ok = accepted job e in
         let whole = well-shaped (geometryOf job) (stripeOf job) (ok .shape) in

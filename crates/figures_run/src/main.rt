@@ -5,9 +5,10 @@ use column::Device;
 use column::Lost;
 use findings::Finding;
 use gf256::Element;
+use header::LIMIT;
 use shape::Geometry;
 use stripe::Checked;
-ghost use Prim.Native.Nat.{_≤_};
+ghost use Prim.Native.Nat.{_≤_, _<_};
 ghost use lib.ListN.{length};
 
 fn main() {
@@ -58,6 +59,16 @@ fn encoding() {
         last_disk(),
     );
     row(b"encode n=256", b"refusal 1", encoded(&mut [1u8; 258]));
+    row(
+        b"encode n=2: 65,536 times 01 each",
+        b"P 00, Q 03",
+        large_block(65536),
+    );
+    row(
+        b"encode n=2: 65,537 times 01 each",
+        b"refusal 2",
+        large_block(65537),
+    );
 }
 
 fn rebuilding() {
@@ -103,13 +114,31 @@ fn judging() {
 }
 
 fn answering() {
-    row(b"job: 13 disks of 4,096", b"done", job_result(13, 4096));
+    row(
+        b"job: 13 disks of 4,096",
+        b"done",
+        job_result(13, 4096, 14 + 15 * 4096),
+    );
     row(
         b"job: 14 disks of 4,096",
         b"refusal 20",
-        job_result(14, 4096),
+        job_result(14, 4096, 14 + 16 * 4096),
     );
-    row(b"job: 1 disk of 4,097", b"refusal 2", job_result(1, 4097));
+    row(
+        b"job: 1 disk of 4,097",
+        b"done",
+        job_result(1, 4097, 14 + 3 * 4097),
+    );
+    row(
+        b"job: 12 disks of 4,097",
+        b"done",
+        job_result(12, 4097, 14 + 14 * 4097),
+    );
+    row(
+        b"job: 13 disks of 4,097",
+        b"refusal 20",
+        job_result(13, 4097, 14 + 15 * 4097),
+    );
 }
 
 // ---- the cases
@@ -124,6 +153,26 @@ fn encoded(s: &mut [u8]) -> [u8; 17]
         return refusal(result);
     }
     parities(s[n], s[n + 1])
+}
+
+// Two disks of b bytes that are all 01.
+fn large_block(b: usize) -> [u8; 17]
+    requires { ⌜ (0 < b) × (b ≤ 65537) ⌝ }
+{
+    let mut s = [1u8; 4 * 65537];
+    last_column(b, &mut s[..4 * b])
+}
+
+// P and Q of the last column of two disks of b bytes, or the refusal.
+fn last_column(b: usize, s: &mut [u8]) -> [u8; 17]
+    requires { ⌜ b < length (now s) ⌝ }
+{
+    let last = s.len() - 1;
+    let result = stripe::encode(Geometry { n: 2, b }, s);
+    if result != 0 {
+        return refusal(result);
+    }
+    parities(s[last - b], s[last])
 }
 
 fn last_disk() -> [u8; 17] {
@@ -141,9 +190,11 @@ fn written() -> [u8; 17] {
     parities(s[3], s[4])
 }
 
-// An encode of n disks of b bytes, with the stripe of 13 disks of 4,096 behind the header.
-fn job_result(n: u8, b: u16) -> [u8; 17] {
-    let mut job = [0u8; 61454];
+// An encode of n disks of b bytes, in a job of so many bytes.
+fn job_result(n: u8, b: u16, len: usize) -> [u8; 17]
+    requires { ⌜ 8 ≤ len ⌝ }
+{
+    let mut job = [0u8; 14 + 16 * 4096];
     job[0] = b'S';
     job[1] = b'R';
     job[2] = b'J';
@@ -156,12 +207,22 @@ fn job_result(n: u8, b: u16) -> [u8; 17] {
     job[11] = 0xff;
     job[12] = 0xff;
     job[13] = 0xff;
-    let mut out = [0xffu8; 61446];
-    let count = job::answer(&job, &mut out);
+    answered(&job, len)
+}
+
+// What is answered to the first bytes.
+fn answered(bytes: &[u8], len: usize) -> [u8; 17]
+    requires { ⌜ 8 ≤ len ⌝ }
+{
+    if bytes.len() < len {
+        return *b"too few bytes    ";
+    }
+    let mut out = [0xffu8; 6 + LIMIT];
+    let count = job::answer(&bytes[0..len], &mut out);
     if out[5] != 0 {
         return refusal(out[5]);
     }
-    if count != 61446 {
+    if count != len - 8 {
         return *b"wrong length     ";
     }
     *b"done             "

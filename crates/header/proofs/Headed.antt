@@ -16,7 +16,7 @@ use Rattle.shape.specs.Layout.{size}
 use Rattle.shape.proofs.Refused.{well-shaped}
 use Rattle.header.specs.Fields.{field}
 use Rattle.header.specs.Header.{geometryOf, stripeOf}
-use Rattle.header.specs.Refusals.{refusal20, jobRefusal}
+use Rattle.header.specs.Refusals.{jobLimit, refusal20, jobRefusal}
 use Rattle.header.specs.Steps.{headerRefusals}
 use Rattle.header.proofs.Order.{limitsOf, from3}
 use Rattle.header.proofs.Accepted.{accepted}
@@ -44,20 +44,20 @@ module _ (job other : List ℕ) (header : take 14 job ≡ take 14 other) where
 
   -- by what the tests for 16 and 3 make of the lengths; 3 comes after 20
   by-lengths : ltb (length job) 14 ≡ ltb (length other) 14
-      → (size (geometryOf other) ≤ 61440
+      → (size (geometryOf other) ≤ jobLimit
       → eqb (length (stripeOf job)) (size (geometryOf other)) ≡ eqb (length (stripeOf other)) (size (geometryOf other)))
       → jobRefusal job ≡ jobRefusal other
   unfolding jobRefusal
   by-lengths short three =
       rw (byte 0 (omega arith), byte 1 (omega arith), byte 2 (omega arith), number 3 (omega arith), byte 5 (omega arith), number 6 (omega arith), number 8 (omega arith), number 10 (omega arith), number 12 (omega arith), short)
       (first-tail (headerRefusals other ++ limitsOf other) (refusal20 (geometryOf other) ∷ from3 other (length (stripeOf job))) (refusal20 (geometryOf other) ∷ from3 other (length (stripeOf other)))
-      (go (ltb 61440 (size (geometryOf other))) refl))
+      (go (ltb jobLimit (size (geometryOf other))) refl))
     where
-      go : (large : Bool) → ltb 61440 (size (geometryOf other)) ≡ large
+      go : (large : Bool) → ltb jobLimit (size (geometryOf other)) ≡ large
           → choose large 20 (firstOf (from3 other (length (stripeOf job))))
           ≡ choose large 20 (firstOf (from3 other (length (stripeOf other))))
       go true e = refl
-      go false e = rw (three (ltb-false 61440 (size (geometryOf other)) e))
+      go false e = rw (three (ltb-false jobLimit (size (geometryOf other)) e))
 
   -- refusals depend on numbers and lengths alone, never on the bytes of the stripe
   pub refusal-by-header : length job ≡ length other → jobRefusal job ≡ jobRefusal other
@@ -66,15 +66,15 @@ module _ (job other : List ℕ) (header : take 14 job ≡ take 14 other) where
       (λ h. ap (λ (n : ℕ). eqb n (size (geometryOf other))) (length-drop 14 job ∙ ap (λ (n : ℕ). n - 14) e ∙ sym (length-drop 14 other)))
 
   -- no stripe is so long
-  pub refusal-past-limit : 61454 < length job → 61454 < length other → jobRefusal job ≡ jobRefusal other
+  pub refusal-past-limit : 14 + jobLimit < length job → 14 + jobLimit < length other → jobRefusal job ≡ jobRefusal other
   refusal-past-limit h k =
       by-lengths (le-ltb (length job) 14 (omega arith) ∙ sym (le-ltb (length other) 14 (omega arith)))
       (λ fits. other-length job h fits ∙ sym (other-length other k fits))
     where
-      other-length : (l : List ℕ) → 61454 < length l → size (geometryOf other) ≤ 61440 → eqb (length (stripeOf l)) (size (geometryOf other)) ≡ false
+      other-length : (l : List ℕ) → 14 + jobLimit < length l → size (geometryOf other) ≤ jobLimit → eqb (length (stripeOf l)) (size (geometryOf other)) ≡ false
       other-length l p fits = ne-eqb (length (stripeOf l)) (size (geometryOf other)) (λ e. omega (arith, length-drop 14 l))
 
-pub too-long : (job : List ℕ) → 61454 < length job → jobRefusal job ≢ 0
+pub too-long : (job : List ℕ) → 14 + jobLimit < length job → jobRefusal job ≢ 0
 too-long job h e =
     let ok = accepted job e in
     let whole = well-shaped (geometryOf job) (stripeOf job) (ok .shape) in

@@ -1,4 +1,5 @@
 pub mod Fielded
 pub mod Order
 pub mod Accepted
+pub mod Limits
 pub mod Headed

@@ -1,5 +1,5 @@
 -- The refusals of a job: each number with its test, and their order. Refusals 1 to 3 are those of the stripe.
-use Prim.Native.Nat.{ℕ, _+_}
+use Prim.Native.Nat.{ℕ, _+_, _/_}
 use mathlib.Core.Bool.{Bool, true, not}
 use mathlib.Core.List.{List, [], _∷_}
 use lib.Dec.{eqb, ltb}
@@ -33,9 +33,17 @@ refusal18 job = record { number = 18; applies = not (eqb (versionOf job) 1) }
 abbrev pub refusal19 : ℕ → Refusal
 refusal19 command = record { number = 19; applies = either (eqb command 0) (ltb 3 command) }
 
--- (n+2)·B above 61,440
+-- the most bytes that the stripe of a job may have
+abbrev pub jobLimit : ℕ
+jobLimit = 61440
+
+-- the most columns that such a stripe has: those of one data disk, P and Q
+abbrev pub mostColumns : ℕ
+mostColumns = jobLimit / 3
+
+-- (n+2)·B above the limit
 abbrev pub refusal20 : Geometry → Refusal
-refusal20 g = record { number = 20; applies = ltb 61440 (size g) }
+refusal20 g = record { number = 20; applies = ltb jobLimit (size g) }
 
 -- a device given or missing against the command's rule, a code with no meaning, or a data disk number of n or more: rebuild wants codes
 -- that name a loss of devices that the stripe has, encode and check want none twice

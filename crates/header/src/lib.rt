@@ -9,6 +9,9 @@ ghost use Rattle.header.specs.Header.{geometryOf};
 ghost use Rattle.header.specs.Refusals.{jobRefusal};
 ghost use Rattle.header.specs.Steps.{headerRefusals, callRefusals};
 
+// The most bytes that the stripe of a job may have.
+pub const LIMIT: usize = 61440;
+
 // ---- the refusals in their order; 0 where none applies
 
 pub fn refusal(job: &[u8]) -> u8
@@ -23,7 +26,7 @@ pub fn refusal(job: &[u8]) -> u8
     if outside != 0 {
         return outside;
     }
-    if 61440 < (g.n + 2) * g.b {
+    if LIMIT < (g.n + 2) * g.b {
         return 20;
     }
     call_refusal(g, job.len() - 14, job[5], field(job, 10), field(job, 12))

@@ -21,10 +21,10 @@ use Rattle.shape.proofs.Places.{length-lift}
 use Rattle.base.proofs.Refused.{first-passed, left-done}
 use Rattle.header.specs.Header.{commandOf, geometryOf, lossNamed, stripeOf}
 use Rattle.devices.specs.Codes.{misnamed, namedTwice}
-use Rattle.report.specs.Report.{report, afterReport}
+use Rattle.report.specs.Report.{report}
 use Rattle.job.specs.Answer.{restored, body}
 use Rattle.header.proofs.Accepted.{Accepted}
-use Rattle.report.proofs.Laws.{length-report, report-done}
+use Rattle.report.proofs.Laws.{length-report}
 
 length-restored : (g : Geometry) (loss : Naming) (s : List ℕ) → length (restored g loss s) ≡ length s
 length-restored g (Loss lost) s = length-lift g (λ i c. rebuildColumn reedSolomon (g .n) lost c) s
@@ -68,9 +68,6 @@ module _ (job : List ℕ) where
     pub encode-done : commandOf job ≡ 1 → afterEncode g s ≡ body job
     unfolding afterEncode
     encode-done e = left-done (encodeRefusal g (length s)) (encoded g s) s (ok .shape) ∙ sym (body-encode e)
-
-    pub check-done : commandOf job ≡ 3 → (out : List ℕ) → length out ≡ length (body job) → afterReport g s out ≡ body job
-    check-done e out room = report-done g s out (ok .shape) (room ∙ length-check e) ∙ sym (body-check e)
 
     pub loss-accepted : (lost : Lost) → unknownLost g lost ≡ false → twice lost ≡ false → rebuildRefusal g (length s) lost ≡ 0
     loss-accepted lost m t = first-passed (shapeRefusals library g (length s)) (lossRefusals g lost) refl (ok .shape) ∙ simp (m, t)

@@ -1,9 +1,18 @@
 // One job: a header of 14 bytes and a stripe, answered by six bytes and, unless the job is refused,
 // the stripe after its encode or rebuild, or what a check of it found.
+use header::LIMIT;
+use shape::Geometry;
 ghost use mathlib.Core.Path.{_≡_};
+ghost use Prim.Native.Nat.{_+_, _*_, _≤_};
 ghost use lib.ListN.{length};
-ghost use Rattle.header.specs.Refusals.{jobRefusal};
+ghost use Rattle.shape.specs.Refusals.{encodeRefusal};
+ghost use Rattle.compare.specs.Compare.{verdicts};
+ghost use Rattle.header.specs.Refusals.{mostColumns, jobRefusal};
+ghost use Rattle.report.specs.Report.{report};
 ghost use Rattle.job.specs.Answer.{body, answerTo, AnswerCall};
+
+// Room for the verdicts of a check. A job has most columns with one data disk, P and Q.
+const ROOM: usize = LIMIT / 3;
 
 // Puts the answer to a job at the start of the output and returns its length. Where the output has
 // no room for it, writes nothing and returns 0.
@@ -55,7 +64,7 @@ fn run(job: &[u8], out: &mut [u8])
     let command = job[5];
     let stripe = &job[14..];
     if command == 3 {
-        report::check(g, stripe, out);
+        check(g, stripe, out);
         return;
     }
     bytes::copy(stripe, out);
@@ -64,4 +73,14 @@ fn run(job: &[u8], out: &mut [u8])
         return;
     }
     stripe::rebuild_named(g, out, header::field(job, 10), header::field(job, 12));
+}
+
+// Fills an output of the report's length with the report of a check.
+fn check(g: Geometry, stripe: &[u8], out: &mut [u8])
+    requires { ⌜ (encodeRefusal g (length (now stripe)) ≡ 0) × (g .b ≤ mostColumns) × (length (now out) ≡ 2 + 2 * g .b) ⌝ }
+    ensures { λ _. ⌜ now (out .exit) ≡ report (verdicts g (now (stripe .entry))) ⌝ }
+{
+    let mut room = [0u16; ROOM];
+    let b = g.b;
+    report::check(g, stripe, &mut room[..b], out);
 }

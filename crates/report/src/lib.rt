@@ -4,31 +4,29 @@ use stripe::Checked;
 ghost use mathlib.Core.Path.{_≡_};
 ghost use Prim.Native.Nat.{_+_, _*_};
 ghost use lib.ListN.{length};
-ghost use Rattle.shape.specs.Refusals.{encodeRefusal};
+ghost use Rattle.shape.specs.Refusals.{checkRefusal};
 ghost use Rattle.compare.specs.Compare.{verdicts};
 ghost use Rattle.header.specs.Fields.{fields};
-ghost use Rattle.report.specs.Report.{report, afterReport};
+ghost use Rattle.report.specs.Report.{report, ReportCall};
 
-// Checks a stripe and fills the output with the report. The output stays as it is where what is
-// checked is no stripe, and where the report has another length.
-pub fn check(g: Geometry, stripe: &[u8], out: &mut [u8])
-    ensures { λ _. ⌜ now (out .exit) ≡ afterReport g (now (stripe .entry)) (now (out .entry)) ⌝ }
+// Checks a stripe: fills the room with the verdicts and the output with the report. Both stay as they
+// are where the check is refused, and where the report has another length than the output.
+pub fn check(g: Geometry, stripe: &[u8], room: &mut [u16], out: &mut [u8])
+    ensures { λ _. ⌜ ReportCall g (now (stripe .entry)) (now (room .entry)) (now (out .entry)) (now (room .exit)) (now (out .exit)) ⌝ }
 {
-    if shape::encode_refusal(g, stripe.len()) != 0 {
+    if shape::check_refusal(g, stripe.len(), room.len()) != 0 {
         return;
     }
     if out.len() != 2 + 2 * g.b {
         return;
     }
-    let mut room = [0u16; 4096];
-    let b = g.b;
-    check_in(g, stripe, &mut room[..b], out);
+    check_in(g, stripe, room, out);
 }
 
-// The check with a room for its verdicts.
+// The check that is not refused, with an output of the report's length.
 fn check_in(g: Geometry, stripe: &[u8], room: &mut [u16], out: &mut [u8])
-    requires { ⌜ (encodeRefusal g (length (now stripe)) ≡ 0) × (length (now room) ≡ g .b) × (length (now out) ≡ 2 + 2 * g .b) ⌝ }
-    ensures { λ _. ⌜ now (out .exit) ≡ report (verdicts g (now (stripe .entry))) ⌝ }
+    requires { ⌜ (checkRefusal g (length (now stripe)) (length (now room)) ≡ 0) × (length (now out) ≡ 2 + 2 * g .b) ⌝ }
+    ensures { λ _. ⌜ (now (room .exit) ≡ verdicts g (now (stripe .entry))) × (now (out .exit) ≡ report (verdicts g (now (stripe .entry)))) ⌝ }
 {
     let Checked::Summary(summary) = stripe::check(g, stripe, room) else {
         return;

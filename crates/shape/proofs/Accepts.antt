@@ -14,7 +14,7 @@ use Rattle.shape.specs.Refusals.{library, shapeRefusals, stretchRefusals
 pub shape-accepts : (g : Geometry) (s : List ℕ) → WellShaped g s → encodeRefusal g (length s) ≡ 0
 shape-accepts g s shaped =
     simp
-    (ne-eqb (g .n) 0 (omega (arith, shaped .disk)), le-ltb 255 (g .n) (shaped .disks), ne-eqb (g .b) 0 (omega (arith, shaped .some)), le-ltb 4096 (g .b) (shaped .block), eq-eqb (length s) (size g) (shaped .whole))
+    (ne-eqb (g .n) 0 (omega (arith, shaped .disk)), le-ltb (library .n) (g .n) (shaped .disks), ne-eqb (g .b) 0 (omega (arith, shaped .some)), le-ltb (library .b) (g .b) (shaped .block), eq-eqb (length s) (size g) (shaped .whole))
 
 -- ---- after refusals 1 to 3
 module _ (g : Geometry) (len : ℕ) (fits : encodeRefusal g len ≡ 0) where

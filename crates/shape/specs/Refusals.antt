@@ -11,9 +11,9 @@ use Rattle.shape.specs.declared.Geometry.{Geometry}
 use Rattle.shape.specs.declared.Limits.{Limits}
 use Rattle.shape.specs.Layout.{size}
 
--- the limits of the library's calls: 1 to 255 data disks, blocks of 1 to 4,096 bytes
+-- the limits of the library's calls: 1 to 255 data disks, blocks of 1 to 65,536 bytes
 abbrev pub library : Limits
-library = record { n = 255; b = 4096 }
+library = record { n = 255; b = 65536 }
 
 -- n is 0 or above its limit
 abbrev pub refusal1 : Limits → Geometry → Refusal

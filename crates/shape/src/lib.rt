@@ -41,7 +41,7 @@ impl Geometry {
 pub fn library_limits() -> Limits
     ensures { λ r. ⌜ r ≡ library ⌝ }
 {
-    Limits { n: 255, b: 4096 }
+    Limits { n: 255, b: 65536 }
 }
 
 // 1 and 2.

@@ -16,7 +16,7 @@ use Rattle.shape.specs.Layout.{size}
 use Rattle.shape.specs.Refusals.{library, limitsRefusals}
 use Rattle.shape.proofs.Refused.{Within, within-limits}
 use Rattle.header.specs.Header.{geometryOf}
-use Rattle.header.specs.Refusals.{jobRefusal}
+use Rattle.header.specs.Refusals.{jobLimit, jobRefusal}
 use Rattle.header.specs.Steps.{headerRefusals}
 use Rattle.header.proofs.Order.{limitsOf, restOf, from20, behindHeader, header-long, call-as}
 use Rattle.header.proofs.refusal.Statement.{statement}
@@ -72,14 +72,14 @@ mul-if3 : tie.Need-mul-if3
 mul-if3 c =
     let within = inside (c .before .before) in
     let g = c .before .before .before .before .before .geometry .result in
-    omega (arith, mul-le-mul {n₁ = g .n + 2} {m₁ = g .b} {n₂ = 257} {m₂ = 4096} (omega arith) (omega arith))
+    omega (arith, mul-le-mul {n₁ = g .n + 2} {m₁ = g .b} {n₂ = library .n + 2} {m₂ = library .b} (omega arith) (omega arith))
 
 returns-3 : tie.Need-returns-3
 unfolding jobRefusal
 returns-3 c =
     let job = c .before .before .before .before .before .before .before .before .before .before .args .job .now in
     let large = ap size (c .before .before .before .before .before .before .geometry .ensures) in
-    behind (c .before .before .before .before .before .before .before) (refused-then (limitsOf job) (from20 job) (limits (c .before .before .before .before)) refl (c .before .before .before .if2 .left) (simp (lt-ltb 61440 (size (geometryOf job)) (omega arith))))
+    behind (c .before .before .before .before .before .before .before) (refused-then (limitsOf job) (from20 job) (limits (c .before .before .before .before)) refl (c .before .before .before .if2 .left) (simp (lt-ltb jobLimit (size (geometryOf job)) (omega arith))))
 
 sub-call-refusal : tie.Need-sub-call-refusal
 sub-call-refusal c = long (c .before .before .before .before .before .before .before)
@@ -102,7 +102,7 @@ returns-4 c =
     let job = c .before .before .before .before .before .before .before .before .before .before .before .before .before .before .args .job .now in
     let small = ap size (c .before .before .before .before .before .before .before .before .before .before .geometry .ensures) in
     let call = c .call-refusal .ensures ∙ call-as job (c .before .before .before .before .before .before .before .before .before .before .geometry .ensures) (sym (length-drop 14 job)) (c .before .before .field .ensures .value) (c .before .field2 .ensures .value) in
-    behind (c .before .before .before .before .before .before .before .before .before .before .before) (refused-then (limitsOf job) (from20 job) (limits (c .before .before .before .before .before .before .before .before)) refl (c .before .before .before .before .before .before .before .if2 .left) (call ∙ first-passed (limitsOf job) (restOf job) refl (sym (limits (c .before .before .before .before .before .before .before .before)) ∙ c .before .before .before .before .before .before .before .if2 .left) ∙ sym (simp (le-ltb 61440 (size (geometryOf job)) (omega arith)))))
+    behind (c .before .before .before .before .before .before .before .before .before .before .before) (refused-then (limitsOf job) (from20 job) (limits (c .before .before .before .before .before .before .before .before)) refl (c .before .before .before .before .before .before .before .if2 .left) (call ∙ first-passed (limitsOf job) (restOf job) refl (sym (limits (c .before .before .before .before .before .before .before .before)) ∙ c .before .before .before .before .before .before .before .if2 .left) ∙ sym (simp (le-ltb jobLimit (size (geometryOf job)) (omega arith)))))
 
 pub refusal-spec : {M : Type 1} → statement M
 refusal-spec =

@@ -1,18 +1,20 @@
 -- `job::run` meets its contract: a call of the stripe for each command.
 -- Assumes nothing.
-use mathlib.Core.Path.{_≡_, ap, ap₂, _∙_}
+use mathlib.Core.Path.{_≡_, sym, ap, ap₂, _∙_}
 use mathlib.Core.List.{List, _++_}
-use Prim.Native.Nat.{ℕ}
+use Prim.Native.Nat.{ℕ, _+_, _*_}
 use native.Mathlib.Omega.{arith}
 use borrow.Author.Needs.{needs}
 use lib.ListN.{length, take, drop}
 use Rattle.shape.specs.declared.Geometry.{Geometry}
+use Rattle.shape.specs.Refusals.{encodeRefusal}
 use Rattle.stripe.specs.Calls.{afterEncode, rebuiltBy}
 use Rattle.devices.specs.Codes.{namingOf}
 use Rattle.header.specs.Header.{geometryOf, stripeOf}
-use Rattle.report.specs.Report.{afterReport}
-use Rattle.header.proofs.Accepted.{Accepted, accepted}
-use Rattle.job.proofs.Bodies.{length-stripe, other, encode-done, check-done, rebuild-done}
+use Rattle.report.specs.Report.{report}
+use Rattle.compare.specs.Compare.{verdicts}
+use Rattle.header.proofs.Accepted.{Accepted, accepted, columns-most}
+use Rattle.job.proofs.Bodies.{length-stripe, other, body-check, length-check, encode-done, rebuild-done}
 use Rattle.base.proofs.Tails.{tail, filled}
 use Rattle.job.proofs.run.Statement.{statement}
 use Rattle.job.proofs.run.Tie as tie
@@ -49,7 +51,14 @@ part-stripe-end : tie.Need-part-stripe-end
 part-stripe-end c = search needs
 
 check-requires : tie.Need-check-requires
-check-requires c κs = search needs
+check-requires c κs =
+    let s = c .before .before .before .before .before .before .before in
+    let is = c .before .before .before .before .geometry .ensures in
+    let job = s .args .job .now in (
+      ap₂ (λ (g : Geometry) (l : List ℕ). encodeRefusal g (length l)) is (tail 14 job) ∙ ok s .shape,
+      rw is (columns-most (ok s)),
+      s .pre .1 ∙ length-check job (c .before .if1 .taken) ∙ ap (λ (g : Geometry). 2 + 2 * g .b) (sym is),
+    )
 
 same-length : tie.Need-same-length
 same-length c = search needs
@@ -59,8 +68,8 @@ returns c =
     let s = c .before .before .before .before .before .before .before .before .before .before in
     let job = s .args .job .now in
     c .before .before .check .ensures
-    ∙ ap₂ (λ (g : Geometry) (l : List ℕ). afterReport g l (s .args .out .now)) (c .before .before .before .before .before .before .before .geometry .ensures) (tail 14 job)
-    ∙ check-done job (ok s) (c .before .before .before .before .if1 .taken) (s .args .out .now) (s .pre .1)
+    ∙ ap₂ (λ (g : Geometry) (l : List ℕ). report (verdicts g l)) (c .before .before .before .before .before .before .before .geometry .ensures) (tail 14 job)
+    ∙ sym (body-check job (c .before .before .before .before .if1 .taken))
 
 copy-requires : tie.Need-copy-requires
 copy-requires c κs = omega (arith, room (c .before), ap length (tail 14 (c .before .before .before .before .before .before .before .args .job .now)))
