@@ -1,5 +1,5 @@
--- A loop that fills a list from the front: the places below k are new, the others old. Four laws serve every such loop: none filled, one
--- place more, a part more, and all, or up to where the rule changes nothing.
+-- A loop that fills a list from the front: the places below k are new, the others old. Five laws serve every such loop: none filled, one
+-- place more, a part more, a part over some of them, and all, or up to where the rule changes nothing.
 -- Assumes nothing.
 use mathlib.Core.Path.{_≡_, refl, sym, ap, subst, _∙_}
 use mathlib.Core.Logic.{⊎-elim}
@@ -36,16 +36,17 @@ module _ {f : ℕ → ℕ → ℕ} {n : ℕ} {s : List ℕ} where
         old = λ j p. getD-set-other t k j v 0 (omega arith) ∙ fill .old j (omega arith);
       }
 
-  pub fill-part : {t m rest : List ℕ} {i : ℕ} (k : ℕ) → Filled f n s t i → i + k ≤ n → m ≡ tabulate k (λ j. f (i + j) (getD s (i + j) 0))
+  -- a part of which some places may be filled already
+  pub fill-over : {t m rest : List ℕ} {c : ℕ} (i k : ℕ) → Filled f n s t c → i ≤ c → c ≤ i + k → i + k ≤ n → m ≡ tabulate k (λ j. f (i + j) (getD s (i + j) 0))
       → rest ≡ drop (i + k) t
       → Filled f n s (take i t ++ (m ++ rest)) (i + k)
-  fill-part {t} {m} {rest} {i} k fill h e after =
+  fill-over {t} {m} {rest} {c} i k fill begins reaches h e after =
       subst (λ (l : List ℕ). Filled f n s (take i t ++ (m ++ l)) (i + k)) (ap (λ (a : ℕ). drop (i + a) t) size ∙ sym after)
       record {
         long = length-spliced t i m fits ∙ fill .long;
         new =
             λ j p.
-            ⊎-elim (λ l. spliced-low t i m fits j l ∙ fill .new j l)
+            ⊎-elim (λ l. spliced-low t i m fits j l ∙ fill .new j (omega arith))
             (λ l.
             ap (λ (a : ℕ). getD (spliced t i m) a 0) (omega arith)
             ∙ spliced-in t i m fits (j - i) (omega (arith, size))
@@ -61,6 +62,11 @@ module _ {f : ℕ → ℕ → ℕ} {n : ℕ} {s : List ℕ} where
 
       fits : i + length m ≤ length t
       fits = omega (arith, size, fill .long)
+
+  pub fill-part : {t m rest : List ℕ} {i : ℕ} (k : ℕ) → Filled f n s t i → i + k ≤ n → m ≡ tabulate k (λ j. f (i + j) (getD s (i + j) 0))
+      → rest ≡ drop (i + k) t
+      → Filled f n s (take i t ++ (m ++ rest)) (i + k)
+  fill-part {i = i} k fill h e after = fill-over i k fill (le-refl i) (omega arith) h e after
 
   -- the rule changes nothing from k on
   pub fill-rest : {t : List ℕ} {k : ℕ} → Filled f n s t k → ((j : ℕ) → k ≤ j → j < n → f j (getD s j 0) ≡ getD s j 0) → t ≡ tabulate n (λ j. f j (getD s j 0))

@@ -1,9 +1,11 @@
 // The stored parities of a stripe held against those that its data give: a verdict for each column, and their summary. The columns are worked
-// on in chunks; the last may be a part of one.
+// on in chunks, of which the last may be a part, or in strips.
 use chunk::WIDTH;
 use shape::Geometry;
+use sums::CHUNKS;
+use sums::STRIP;
 ghost use mathlib.Core.Path.{_≡_};
-ghost use Prim.Native.Nat.{_+_};
+ghost use Prim.Native.Nat.{_+_, _≤_};
 ghost use lib.ListN.{length};
 ghost use Rattle.base.specs.Table.{tabulate};
 ghost use Rattle.column.specs.Column.{verdict};
@@ -11,6 +13,7 @@ ghost use Rattle.chunk.specs.Chunk.{width};
 ghost use Rattle.shape.specs.Layout.{column};
 ghost use Rattle.shape.specs.Refusals.{WellShaped};
 ghost use Rattle.stretch.specs.Stretch.{Has};
+ghost use Rattle.sums.specs.Strip.{strip, HasStrip};
 ghost use Rattle.verdict.specs.Summary.{WithSummary};
 ghost use Rattle.compare.specs.Compare.{verdicts, CompareCall};
 
@@ -21,7 +24,48 @@ pub fn compare(g: Geometry, stripe: &[u8], room: &mut [u16]) -> u16
     if shape::check_refusal(g, stripe.len(), room.len()) != 0 {
         return 0;
     }
-    check_columns(g, stripe, room)
+    if sums::in_strips(g) {
+        check_strips(g, stripe, room)
+    } else {
+        check_columns(g, stripe, room)
+    }
+}
+
+// By whole strips, of which the last may take columns again: their verdicts are the same.
+fn check_strips(g: Geometry, stripe: &[u8], room: &mut [u16]) -> u16
+    requires { ⌜ WellShaped g (now stripe) × (strip ≤ g .b) × (length (now room) ≡ g .b) ⌝ }
+    ensures { λ r. ⌜ WithSummary (verdicts g (now (stripe .entry))) r (now (room .exit)) ⌝ }
+{
+    let mut found = 0;
+    let mut done = 0;
+    while done < g.b {
+        let i = stretch::next_start(g.b, STRIP, done);
+        found = verdict::joined(found, check_strip(g, stripe, i, &mut room[i..i + STRIP]));
+        done = i + STRIP;
+    }
+    found
+}
+
+fn check_strip(g: Geometry, stripe: &[u8], i: usize, room: &mut [u16]) -> u16
+    requires { ⌜ HasStrip g (now stripe) i × (length (now room) ≡ strip) ⌝ }
+    ensures { λ r. ⌜ WithSummary (tabulate (length (now (room .entry))) (λ j. verdict (g .n) (column g (now (stripe .entry)) (i + j)))) r (now (room .exit)) ⌝ }
+{
+    let mut p = [0u8; STRIP];
+    let mut q = [0u8; STRIP];
+    sums::strip_survivors(g, stripe, i, g.n + 2, g.n + 2, &mut p, &mut q);
+    let mut found = 0;
+    let mut m = 0;
+    while m < CHUNKS {
+        let c = WIDTH * m;
+        let a = chunk::load(&p[c..c + WIDTH]);
+        let b = chunk::load(&q[c..c + WIDTH]);
+        found = verdict::joined(
+            found,
+            verdict::verdicts_of(g.n, &a, &b, &mut room[c..c + WIDTH]),
+        );
+        m += 1;
+    }
+    found
 }
 
 fn check_columns(g: Geometry, stripe: &[u8], room: &mut [u16]) -> u16

@@ -5,6 +5,8 @@ use gf256::Element;
 use losses::Plan;
 use losses::Rule;
 use shape::Geometry;
+use sums::CHUNKS;
+use sums::STRIP;
 use sums::Sums;
 ghost use mathlib.Core.Path.{_≡_};
 ghost use Prim.Native.Nat.{_+_, _≤_, _<_};
@@ -15,7 +17,8 @@ ghost use Rattle.shape.specs.Refusals.{WellShaped};
 ghost use Rattle.shape.specs.Columns.{ColumnsMapped};
 ghost use Rattle.stretch.specs.Stretch.{Has, columnOf};
 ghost use Rattle.sums.specs.Sums.{sumsOf};
-ghost use Rattle.restore.specs.Restore.{restored};
+ghost use Rattle.sums.specs.Strip.{strip, HasStrip};
+ghost use Rattle.restore.specs.Restore.{restored, Survivors};
 
 // Restores a stripe. What is no stripe, or has not the roles of the plan, stays as it is.
 pub fn restore(g: Geometry, stripe: &mut [u8], plan: Plan)
@@ -27,7 +30,80 @@ pub fn restore(g: Geometry, stripe: &mut [u8], plan: Plan)
     if !parts::has_roles(g.n, plan) {
         return;
     }
-    restore_columns(g, stripe, plan);
+    restore_known(g, stripe, plan);
+}
+
+// By strips where that is faster. Encode is a rebuild of both parities: P is P* and Q is Q* of the data alone.
+fn restore_known(g: Geometry, stripe: &mut [u8], plan: Plan)
+    requires { ⌜ WellShaped g (now stripe) × KnownPlan (g .n) plan ⌝ }
+    ensures { λ _. ⌜ now (stripe .exit) ≡ lift g (λ i c. restoredBy (g .n) plan c) (now (stripe .entry)) ⌝ }
+{
+    if !sums::in_strips(g) {
+        restore_columns(g, stripe, plan);
+        return;
+    }
+    match plan {
+        Plan::ByP(_) => restore_columns(g, stripe, plan),
+        Plan::FromData(both) => {
+            if both {
+                restore_strips(g, stripe, g.n, g.n + 1, Rule::Carried(Element(0)));
+            } else {
+                restore_columns(g, stripe, plan);
+            }
+        }
+        Plan::ByBoth(x, y, rule) => restore_strips(g, stripe, x, y, rule),
+    }
+}
+
+// By whole strips, of which the last may take columns again, as with chunks below.
+fn restore_strips(g: Geometry, stripe: &mut [u8], x: usize, y: usize, rule: Rule)
+    requires { ⌜ WellShaped g (now stripe) × (strip ≤ g .b) × (x < g .n + 2) × (y < g .n + 2) ⌝ }
+    ensures { λ _. ⌜ now (stripe .exit) ≡ lift g (λ i c. solved (g .n) x y rule c) (now (stripe .entry)) ⌝ }
+{
+    let mut done = 0;
+    while done < g.b {
+        let i = stretch::next_start(g.b, STRIP, done);
+        restore_strip(g, stripe, i, x, y, rule);
+        done = i + STRIP;
+    }
+}
+
+fn restore_strip(g: Geometry, stripe: &mut [u8], i: usize, x: usize, y: usize, rule: Rule)
+    requires { ⌜ HasStrip g (now stripe) i × (x < g .n + 2) × (y < g .n + 2) ⌝ }
+    ensures { λ _. ⌜ ColumnsMapped g i strip (λ j c. solved (g .n) x y rule c) (now (stripe .entry)) (now (stripe .exit)) ⌝ }
+{
+    let mut p = [0u8; STRIP];
+    let mut q = [0u8; STRIP];
+    sums::strip_survivors(g, stripe, i, x, y, &mut p, &mut q);
+    let mut m = 0;
+    while m < CHUNKS {
+        let c = WIDTH * m;
+        let a = chunk::load(&p[c..c + WIDTH]);
+        let b = chunk::load(&q[c..c + WIDTH]);
+        set_solved(g, stripe, i + c, x, y, rule, a, b);
+        m += 1;
+    }
+}
+
+// The bytes of both roles in a chunk of columns, solved from their P* and Q*.
+fn set_solved(
+    g: Geometry,
+    stripe: &mut [u8],
+    i: usize,
+    x: usize,
+    y: usize,
+    rule: Rule,
+    p: [u8; WIDTH],
+    q: [u8; WIDTH],
+)
+    requires { ⌜ Has g (now stripe) i width × (x < g .n + 2) × (y < g .n + 2) × Survivors g (now stripe) i x y p q ⌝ }
+    ensures { λ _. ⌜ ColumnsMapped g i width (λ j c. solved (g .n) x y rule c) (now (stripe .entry)) (now (stripe .exit)) ⌝ }
+{
+    let new = losses::solve(rule, p, q);
+    let on_x = new.first;
+    let on_y = new.second;
+    stretch::set(g, stripe, y, i, WIDTH, on_y);
+    stretch::set(g, stripe, x, i, WIDTH, on_x);
 }
 
 // By whole chunks, of which the last may take columns again: what was lost comes out the same.
@@ -41,17 +117,10 @@ fn restore_columns(g: Geometry, stripe: &mut [u8], plan: Plan)
     }
     let mut done = 0;
     while done < g.b {
-        let i = next_chunk(g.b, done);
+        let i = stretch::next_start(g.b, WIDTH, done);
         restore_chunk(g, stripe, i, plan);
         done = i + WIDTH;
     }
-}
-
-fn next_chunk(b: usize, done: usize) -> usize
-    requires { ⌜ (width ≤ b) × (done ≤ b) ⌝ }
-    ensures { λ r. ⌜ (r ≤ done) × (r + width ≤ b) × (done < b → done < r + width) ⌝ }
-{
-    if b - WIDTH < done { b - WIDTH } else { done }
 }
 
 fn restore_chunk(g: Geometry, stripe: &mut [u8], i: usize, plan: Plan)

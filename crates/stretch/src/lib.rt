@@ -2,7 +2,7 @@
 use chunk::WIDTH;
 use shape::Geometry;
 ghost use mathlib.Core.Path.{_≡_};
-ghost use Prim.Native.Nat.{_+_};
+ghost use Prim.Native.Nat.{_+_, _-_, min};
 ghost use lib.Dec.{ltb};
 ghost use Rattle.chunk.specs.Chunk.{each};
 ghost use Rattle.stretch.specs.Stretch.{hasColumns, columnOf, hasStretch, setOn};
@@ -31,6 +31,16 @@ pub fn has_role(n: usize, role: usize) -> bool
         return true;
     }
     role - n < 2
+}
+
+// Where w columns begin that follow the first `done` of b; the last begin earlier, so that they fit.
+pub fn next_start(b: usize, w: usize, done: usize) -> usize
+    ensures { λ r. ⌜ r ≡ min done (b - w) ⌝ }
+{
+    if b < w {
+        return 0;
+    }
+    if b - w < done { b - w } else { done }
 }
 
 // The bytes of a role in these columns, with 00 behind them and for what the stripe has not.

@@ -23,7 +23,7 @@ module _ (t : ℕ → ℕ → ℕ) (n : ℕ) (f : ℕ → ℕ) where
   abbrev tail : ℕ → ℕ
   tail k = total (n - k) (λ j. t j (f (k + j)))
 
-  tail-none : tail n ≡ 0
+  pub tail-none : tail n ≡ 0
   tail-none = ap (λ (m : ℕ). total m (λ j. t j (f (n + j)))) (sub-self n) ∙ unfold total in refl
 
   tail-all : tail 0 ≡ total n (λ j. t j (f j))

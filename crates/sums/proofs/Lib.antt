@@ -1,2 +1,3 @@
 mod Horner
 mod Zeros
+pub mod Strips

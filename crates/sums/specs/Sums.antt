@@ -43,5 +43,6 @@ DisksAdded g i from to s p q p′ q′ =
 pub record AddedAbove (g : Geometry) (i lost to : ℕ) (s p q : List ℕ) (r : ℕ) (p′ q′ : List ℕ) : Type 0 where
   pub below : r ≤ lost
   pub within : r ≤ to
+  pub above : (k : ℕ) → k ≤ lost → k ≤ to → k ≤ r
   pub sums : (f : ℕ → Column) → Agrees g i (lost + 1) to s f → ((j : ℕ) → j < width → f j lost ≡ 0) → Tails (g .n) to f p q
       → Tails (g .n) r f p′ q′

@@ -4,17 +4,29 @@ use chunk::WIDTH;
 use shape::Geometry;
 ghost use mathlib.Core.Path.{_≡_};
 ghost use mathlib.Core.Logic.{_⊎_};
-ghost use Prim.Native.Nat.{_≤_};
+ghost use Prim.Native.Nat.{_≤_, _<_};
 ghost use Rattle.chunk.specs.Chunk.{width, each};
 ghost use Rattle.losses.specs.Losses.{without, byP};
 ghost use Rattle.stretch.specs.Stretch.{Has, columnOf};
 ghost use Rattle.sums.specs.Sums.{paritiesOf, sumsOf, DisksAdded, AddedAbove};
+ghost use Rattle.sums.specs.Strip.{strip, inStrips, hasStrip, HasStrip, stripColumn, StripSummed, Stage, GroupAdded, AddedWithin};
 
 // Both sums of a chunk of columns.
 pub struct Sums {
     pub p: [u8; WIDTH],
     pub q: [u8; WIDTH],
 }
+
+// The chunks of a strip, and its columns.
+pub const CHUNKS: usize = 16;
+
+pub const STRIP: usize = CHUNKS * WIDTH;
+
+// The disks that are read in a chunk of a strip before the next chunk.
+const GROUP: usize = 32;
+
+// With more disks than these a stripe is worked on in strips.
+const FEW: usize = 64;
 
 // P and Q of each column of a chunk, as the data give them.
 pub fn parities(g: Geometry, stripe: &[u8], i: usize) -> Sums
@@ -71,6 +83,43 @@ pub fn part_survivors(g: Geometry, stripe: &[u8], i: usize, w: usize, x: usize, 
     let d = load_but(g, stripe, g.n + 1, i, w, x, y);
     chunk::add(&mut q, &d);
     Sums { p, q }
+}
+
+// The same of a strip, left in p and q. Where many disks lie far apart this is faster than chunk after
+// chunk: of each disk a strip is read before the next disks. p and q stay where the stripe has not
+// these columns.
+pub fn strip_survivors(
+    g: Geometry,
+    stripe: &[u8],
+    i: usize,
+    x: usize,
+    y: usize,
+    p: &mut [u8; STRIP],
+    q: &mut [u8; STRIP],
+)
+    ensures { λ _. ⌜ StripSummed g i x y (now (stripe .entry)) (now (p .entry)) (now (q .entry)) (now (p .exit)) (now (q .exit)) ⌝ }
+{
+    if !has_strip(g, stripe.len(), i) {
+        return;
+    }
+    *p = [0u8; STRIP];
+    *q = [0u8; STRIP];
+    let mut to = g.n;
+    while 0 < to {
+        let from = group_below(to);
+        add_to_strip(g, stripe, i, x, y, from, to, p, q);
+        to = from;
+    }
+}
+
+// Whether a stripe is to be worked on in strips: it has many disks, and a strip of columns.
+pub fn in_strips(g: Geometry) -> bool
+    ensures { λ r. ⌜ r ≡ inStrips g ⌝ }
+{
+    if g.n <= FEW {
+        return false;
+    }
+    STRIP <= g.b
 }
 
 // The sum of the data and P of each of w columns without role x. Q is neither read nor summed.
@@ -146,6 +195,98 @@ fn add_disks(
         let d = chunk::load(&stripe[at..at + WIDTH]);
         chunk::add_disk(p, q, &d);
     }
+}
+
+// Whether a buffer of this length is a stripe with a strip of columns from i on.
+fn has_strip(g: Geometry, len: usize, i: usize) -> bool
+    ensures { λ r. ⌜ r ≡ hasStrip g len i ⌝ }
+{
+    if shape::encode_refusal(g, len) != 0 {
+        return false;
+    }
+    if g.b < STRIP {
+        return false;
+    }
+    i <= g.b - STRIP
+}
+
+fn group_below(to: usize) -> usize
+    ensures { λ r. ⌜ (r ≤ to) × (0 < to → r < to) ⌝ }
+{
+    if to < GROUP { 0 } else { to - GROUP }
+}
+
+// A group of disks in all chunks of a strip.
+fn add_to_strip(
+    g: Geometry,
+    stripe: &[u8],
+    i: usize,
+    x: usize,
+    y: usize,
+    from: usize,
+    to: usize,
+    p: &mut [u8],
+    q: &mut [u8],
+)
+    requires { ⌜ HasStrip g (now stripe) i × (from < to) × (to ≤ g .n) × Stage strip (g .n) to (stripColumn g (now stripe) i x y) (now p) (now q) ⌝ }
+    ensures { λ _. ⌜ Stage strip (g .n) from (stripColumn g (now (stripe .entry)) i x y) (now (p .exit)) (now (q .exit)) ⌝ }
+{
+    let mut m = 0;
+    while m < CHUNKS {
+        let c = WIDTH * m;
+        let mut a = chunk::load(&p[c..c + WIDTH]);
+        let mut b = chunk::load(&q[c..c + WIDTH]);
+        add_group(g, stripe, i + c, x, y, from, to, &mut a, &mut b);
+        chunk::store(&mut p[c..c + WIDTH], a);
+        chunk::store(&mut q[c..c + WIDTH], b);
+        m += 1;
+    }
+}
+
+// The disks below `to` down to `from` without x and y, and below them the stored parities.
+fn add_group(
+    g: Geometry,
+    stripe: &[u8],
+    i: usize,
+    x: usize,
+    y: usize,
+    from: usize,
+    to: usize,
+    p: &mut [u8; WIDTH],
+    q: &mut [u8; WIDTH],
+)
+    requires { ⌜ Has g (now stripe) i width × (from ≤ to) × (to ≤ g .n) ⌝ }
+    ensures { λ _. ⌜ GroupAdded g i x y from to (now (stripe .entry)) (now (p .entry)) (now (q .entry)) (now (p .exit)) (now (q .exit)) ⌝ }
+{
+    let k = add_within(g, stripe, i, higher(x, y), from, to, p, q);
+    let k = add_within(g, stripe, i, lower(x, y), from, k, p, q);
+    add_disks(g, stripe, i, from, k, p, q);
+    if from == 0 {
+        let d = load_but(g, stripe, g.n, i, WIDTH, x, y);
+        chunk::add(p, &d);
+        let d = load_but(g, stripe, g.n + 1, i, WIDTH, x, y);
+        chunk::add(q, &d);
+    }
+}
+
+// Those above a lost disk, if it is one of them.
+fn add_within(
+    g: Geometry,
+    stripe: &[u8],
+    i: usize,
+    lost: usize,
+    from: usize,
+    to: usize,
+    p: &mut [u8; WIDTH],
+    q: &mut [u8; WIDTH],
+) -> usize
+    requires { ⌜ Has g (now stripe) i width × (from ≤ to) × (to ≤ g .n) ⌝ }
+    ensures { λ r. ⌜ AddedWithin g i lost from to (now (stripe .entry)) (now (p .entry)) (now (q .entry)) r (now (p .exit)) (now (q .exit)) ⌝ }
+{
+    if lost < from {
+        return to;
+    }
+    add_above(g, stripe, i, lost, to, p, q)
 }
 
 // 00 where the role is x or y.

@@ -1,11 +1,12 @@
--- The summary of two stretches of columns is that of their summaries, since `joined` is associative and leaves out 0. So a loop that fills
--- a list with verdicts and keeps their summary has four laws, as one that only fills: none filled, one place more, a part more, and all.
+-- The summary of two stretches of columns is that of their summaries, since `joined` is associative, leaves out 0 and takes one summary twice as once.
+-- So a loop that fills a list with verdicts and keeps their summary has five laws, as one that only fills: none filled, one place more, a part
+-- more, a part over some of them, and all.
 -- Assumes nothing.
 use mathlib.Core.Path.{_≡_, refl, sym, ap, ap₂, _∙_, subst}
 use mathlib.Core.Bool.{Bool, true, false}
 use mathlib.Core.List.{List, [], _∷_, _++_}
-use Prim.Native.Nat.{ℕ, zero, suc, _+_, _≤_, _<_}
-use native.Mathlib.Nat.{add-zero}
+use Prim.Native.Nat.{ℕ, zero, suc, _+_, _-_, _≤_, _<_}
+use native.Mathlib.Nat.{add-zero, le-refl}
 use native.Mathlib.Omega.{arith}
 use borrow.Author.Tests.{eqb-true}
 use lib.Dec.{eqb}
@@ -13,10 +14,10 @@ use lib.ListN.{length, set, take, drop}
 use Rattle.base.specs.Choice.{choose}
 use Rattle.base.specs.Table.{tabulate}
 use Rattle.base.proofs.Table.{tabulate-split}
-use Rattle.base.proofs.Fill.{Filled, fill-none, fill-more, fill-part, fill-all}
+use Rattle.base.proofs.Fill.{Filled, fill-none, fill-more, fill-over, fill-all}
 use Rattle.verdict.specs.Summary.{joined, summary, WithSummary}
 
--- ---- what is known of `joined`: all else rests on these three
+-- ---- what is known of `joined`: all else rests on these four
 joined-left : (b : ℕ) → joined 0 b ≡ b
 unfolding joined
 joined-left b = refl
@@ -36,6 +37,14 @@ joined-assoc a b c = go (eqb a 0) refl
     go : (t : Bool) → eqb a 0 ≡ t → choose (eqb (choose t b a) 0) c (choose t b a) ≡ choose t (choose (eqb b 0) c b) a
     go true e = refl
     go false e = rw e
+
+joined-same : (a : ℕ) → joined a a ≡ a
+unfolding joined
+joined-same a = go (eqb a 0)
+  where
+    go : (t : Bool) → choose t a a ≡ a
+    go true = refl
+    go false = refl
 
 -- ---- the summary
 pub summary-append : (a b : List ℕ) → summary (a ++ b) ≡ joined (summary a) (summary b)
@@ -61,11 +70,28 @@ pub record FilledWithSummary (f : ℕ → ℕ) (n : ℕ) (s t : List ℕ) (i fou
   pub filled : Filled (λ j v. f j) n s t i
   pub summarized : found ≡ summary (tabulate i f)
 
+summary-split : (a b : ℕ) (f : ℕ → ℕ) → summary (tabulate (a + b) f) ≡ joined (summary (tabulate a f)) (summary (tabulate b (λ j. f (a + j))))
+summary-split a b f = ap summary (tabulate-split a b f) ∙ summary-append (tabulate a f) (tabulate b (λ j. f (a + j)))
+
+-- k columns from i on, of which those below c were summarized already
+summary-over : (f : ℕ → ℕ) (i k c : ℕ) {found v r : ℕ} → i ≤ c → c ≤ i + k → found ≡ summary (tabulate c f) → v ≡ summary (tabulate k (λ j. f (i + j))) → r ≡ joined found v
+    → r ≡ summary (tabulate (i + k) f)
+summary-over f i k c begins reaches before after step =
+    let here : ℕ → ℕ = λ j. f (i + j) in
+    let low = summary (tabulate i f) in
+    let again = summary (tabulate (c - i) here) in
+    let new = summary (tabulate (i + k - c) (λ j. here (c - i + j))) in
+    let both : summary (tabulate k here) ≡ joined again new = ap (λ (m : ℕ). summary (tabulate m here)) (omega arith) ∙ summary-split (c - i) (i + k - c) here in
+    step
+    ∙ ap₂ joined (before ∙ ap (λ (m : ℕ). summary (tabulate m f)) (omega arith) ∙ summary-split i (c - i) f) (after ∙ both)
+    ∙ joined-assoc low again (joined again new)
+    ∙ ap (joined low) (sym (joined-assoc again again new) ∙ ap (λ (m : ℕ). joined m new) (joined-same again) ∙ sym both)
+    ∙ sym (summary-split i k f)
+
 -- one stretch more
 summary-more : (f : ℕ → ℕ) (i k : ℕ) {found v r : ℕ} → found ≡ summary (tabulate i f) → v ≡ summary (tabulate k (λ j. f (i + j))) → r ≡ joined found v
     → r ≡ summary (tabulate (i + k) f)
-summary-more f i k before after step =
-    step ∙ ap₂ joined before after ∙ sym (summary-append (tabulate i f) (tabulate k (λ j. f (i + j)))) ∙ ap summary (sym (tabulate-split i k f))
+summary-more f i k before after step = summary-over f i k i (le-refl i) (omega arith) before after step
 
 module _ {f : ℕ → ℕ} {n : ℕ} {s : List ℕ} where
   pub summary-filled-none : length s ≡ n → FilledWithSummary f n s s 0 0
@@ -79,16 +105,23 @@ module _ {f : ℕ → ℕ} {n : ℕ} {s : List ℕ} where
         summarized = summary-more f i 1 (fill .summarized) (e ∙ sym (rw (summary-one, add-zero))) step;
       }
 
+  pub summary-filled-over : {t m rest : List ℕ} {c found v r : ℕ} (i k : ℕ) → FilledWithSummary f n s t c found → i ≤ c → c ≤ i + k → i + k ≤ n
+      → WithSummary (tabulate k (λ j. f (i + j))) v m
+      → rest ≡ drop (i + k) t
+      → r ≡ joined found v
+      → FilledWithSummary f n s (take i t ++ (m ++ rest)) (i + k) r
+  summary-filled-over {c = c} i k fill begins reaches h part after step =
+      record {
+        filled = fill-over i k (fill .filled) begins reaches h (part .room) after;
+        summarized = summary-over f i k c begins reaches (fill .summarized) (part .result) step;
+      }
+
   pub summary-filled-part : {t m rest : List ℕ} {i found v r : ℕ} (k : ℕ) → FilledWithSummary f n s t i found → i + k ≤ n
       → WithSummary (tabulate k (λ j. f (i + j))) v m
       → rest ≡ drop (i + k) t
       → r ≡ joined found v
       → FilledWithSummary f n s (take i t ++ (m ++ rest)) (i + k) r
-  summary-filled-part {i = i} k fill h part after step =
-      record {
-        filled = fill-part k (fill .filled) h (part .room) after;
-        summarized = summary-more f i k (fill .summarized) (part .result) step;
-      }
+  summary-filled-part {i = i} k fill h part after step = summary-filled-over i k fill (le-refl i) (omega arith) h part after step
 
   pub summary-filled-all : {t : List ℕ} {i found : ℕ} → FilledWithSummary f n s t i found → i ≡ n → WithSummary (tabulate n f) found t
   summary-filled-all fill all =

@@ -2,7 +2,7 @@
 -- Assumes nothing.
 use borrow.Author.Needs.{needs}
 use borrow.Author.Tests.{ne-eqb, not-true, not-false}
-use mathlib.Core.Path.{_≡_, sym, _∙_}
+use mathlib.Core.Path.{sym, _∙_}
 use Rattle.losses.specs.Losses.{KnownPlan}
 use Rattle.shape.specs.Refusals.{WellShaped}
 use Rattle.shape.proofs.Accepts.{shape-accepts}
@@ -30,14 +30,14 @@ has-roles-requires c κs = search needs
 returns-2 : tie.Need-returns-2
 returns-2 c = let a = c .before .before .before .before .before .args in rw (shape-accepts (a .g) (a .stripe .now) (shaped (c .before .before)), sym (c .before .has-roles .ensures) ∙ not-true _ (c .if2 .taken))
 
-restore-columns-requires : tie.Need-restore-columns-requires
-restore-columns-requires c κs = (shaped (c .before .before .before), planned (c .before))
+restore-known-requires : tie.Need-restore-known-requires
+restore-known-requires c κs = (shaped (c .before .before .before), planned (c .before))
 
 same-length : tie.Need-same-length
 same-length c = search needs
 
 returns-3 : tie.Need-returns-3
-returns-3 c = let a = c .before .before .before .before .before .before .before .before .before .args in c .before .before .restore-columns .ensures ∙ sym (restored-is (a .g) (a .plan) (a .stripe .now) (shaped (c .before .before .before .before .before .before)) (planned (c .before .before .before .before)))
+returns-3 c = let a = c .before .before .before .before .before .before .before .before .before .args in c .before .before .restore-known .ensures ∙ sym (restored-is (a .g) (a .plan) (a .stripe .now) (shaped (c .before .before .before .before .before .before)) (planned (c .before .before .before .before)))
 
 pub restore-spec : {M : Type 1} → statement M
 restore-spec =
@@ -47,6 +47,6 @@ restore-spec =
     returns
     has-roles-requires
     returns-2
-    restore-columns-requires
+    restore-known-requires
     same-length
     returns-3)

@@ -35,25 +35,24 @@ returns c =
 loop-holds : tie.Need-loop-holds Inv-loop μ-loop
 loop-holds c = (omega arith, columns-none)
 
-next-chunk-requires : tie.Need-next-chunk-requires Inv-loop μ-loop
-next-chunk-requires c κs = search needs
+next-start-requires : tie.Need-next-start-requires Inv-loop μ-loop
+next-start-requires c κs = search needs
 
 restore-chunk-requires : tie.Need-restore-chunk-requires Inv-loop μ-loop
-restore-chunk-requires c κs = let pre = c .before .before .before .before .before .before .before .before .pre in (record { shaped = shaped-same (pre .0) (c .before .before .before .before .loop .inv .1 .kept); fits = c .before .next-chunk .ensures .1; held = omega arith }, pre .1)
+restore-chunk-requires c κs = let pre = c .before .before .before .before .before .before .before .before .pre in (record { shaped = shaped-same (pre .0) (c .before .before .before .before .loop .inv .1 .kept); fits = omega (arith, c .before .next-start .ensures); held = omega arith }, pre .1)
 
 add-done : tie.Need-add-done Inv-loop μ-loop
-add-done c = omega (arith, c .before .before .before .before .next-chunk .ensures .1, c .before .before .before .before .before .before .before .before .before .before .before .pre .0 .block)
+add-done c = omega (arith, c .before .before .before .before .next-start .ensures, c .before .before .before .before .before .before .before .before .before .before .before .pre .0 .block)
 
 loop-less : tie.Need-loop-less Inv-loop μ-loop
-loop-less c = let on = c .before .before .before .before .next-chunk .ensures .2 (omega arith) in omega arith
+loop-less c = omega (arith, c .before .before .before .before .next-start .ensures)
 
 loop-again : tie.Need-loop-again Inv-loop μ-loop
 loop-again c =
     let a = c .before .before .before .before .before .before .before .before .before .before .before .args in
     let l = c .before .before .before .before .before .before .before .loop in
-    let chunk = c .before .before .before .before .next-chunk .ensures in
-    let on = chunk .2 (omega arith) in
-    (chunk .1, columns-again (omega arith) (chunk .0) (omega arith) (chunk .1) (restored-again (a .g .n) (a .plan)) (l .inv .1) (c .before .before .restore-chunk .ensures))
+    let chunk = c .before .before .before .before .next-start .ensures in
+    (omega (arith, chunk), columns-again (omega arith) (omega (arith, chunk)) (omega (arith, chunk)) (omega (arith, chunk)) (restored-again (a .g .n) (a .plan)) (l .inv .1) (c .before .before .restore-chunk .ensures))
 
 same-length-2 : tie.Need-same-length-2 Inv-loop μ-loop
 same-length-2 c = c .before .before .loop .inv .1 .kept
@@ -71,7 +70,7 @@ restore-columns-spec =
     same-length
     returns
     loop-holds
-    next-chunk-requires
+    next-start-requires
     restore-chunk-requires
     add-done
     loop-less

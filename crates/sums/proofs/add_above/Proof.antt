@@ -7,7 +7,7 @@ use Rattle.sums.proofs.add_above.Statement.{statement}
 use Rattle.sums.proofs.add_above.Tie as tie
 
 returns : tie.Need-returns
-returns c = record { below = omega arith; within = omega arith; sums = λ f agrees zero tails. tails }
+returns c = record { below = omega arith; within = omega arith; above = λ k l h. omega arith; sums = λ f agrees zero tails. tails }
 
 add-add-disks : tie.Need-add-add-disks
 add-add-disks c = search needs
@@ -23,6 +23,7 @@ returns-2 c =
     record {
       below = omega arith;
       within = omega arith;
+      above = λ k l h. omega arith;
       sums = λ f agrees zero tails. tails-zero (c .before .before .before .before .before .before .before .args .g .n) f (omega arith) (c .before .before .add-disks .ensures f agrees tails) zero (c .double .ensures);
     }
 
