@@ -21,7 +21,8 @@ impl Linux {
         unsafe { Library::find(&[file])?.function(c"data2") }.map(Linux)
     }
 
-    /// The library on one stripe, or none where its blocks are no multiple of 64 bytes.
+    /// The library on one stripe, or none where its blocks are no multiple of 64 bytes. They are no larger than the pages that it
+    /// is built for.
     pub fn on(self, stripe: Stripe) -> Option<Call> {
         stripe.b.is_multiple_of(64).then(|| Call { function: self.0, stripe, places: stripe.places() })
     }

@@ -4,8 +4,13 @@ use std::time::Instant;
 
 /// Turns of each contestant.
 pub const TURNS: usize = 200;
-/// A turn lasts about as long as this, in seconds.
+/// A turn lasts about as long as this, in seconds, where its calls are not longer.
 pub const TURN: f64 = 0.002;
+/// The fewest calls of a turn.
+pub const CALLS: usize = 3;
+/// The calls before the first that is timed. After others have had the caches, a call on a stripe of 16 MB becomes steady with its
+/// seventh: the first takes three times as long.
+pub const WARM: usize = 8;
 
 fn time(call: &dyn Fn(), count: usize) -> f64 {
     let start = Instant::now();
@@ -21,18 +26,20 @@ fn calls(call: &dyn Fn()) -> usize {
     loop {
         let taken = time(call, count);
         if taken >= TURN / 4.0 {
-            return ((count as f64 * TURN / taken) as usize).max(1);
+            return ((count as f64 * TURN / taken) as usize).max(CALLS);
         }
         count *= 2;
     }
 }
 
-/// Seconds that each takes, in its best turn.
+/// Seconds that each takes, in its best turn. A turn begins with calls that are not timed, so that the caches are as the
+/// contestant's own call leaves them and not as the others did.
 pub fn best(turns: usize, contestants: &[&dyn Fn()]) -> Vec<f64> {
     let counts: Vec<usize> = contestants.iter().map(|call| calls(*call)).collect();
     let mut best = vec![f64::INFINITY; contestants.len()];
     for _ in 0..turns {
         for (i, call) in contestants.iter().enumerate() {
+            time(call, WARM);
             best[i] = best[i].min(time(call, counts[i]) / counts[i] as f64);
         }
     }

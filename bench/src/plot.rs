@@ -2,15 +2,15 @@
 
 use crate::measure::best;
 use crate::processor;
-use crate::shelf::Stripe;
+use crate::shelf::{Stripe, LARGEST};
 use crate::verify;
 use outside::random::Random;
 use std::fmt::Write;
 
 const DISKS: [usize; 13] = [1, 2, 3, 4, 6, 8, 12, 16, 32, 64, 128, 192, 255];
-const BLOCKS: [usize; 15] = [1, 2, 4, 8, 16, 32, 64, 128, 256, 512, 1024, 2048, 3072, 4095, 4096];
+const BLOCKS: [usize; 18] = [1, 2, 4, 8, 16, 32, 64, 128, 256, 512, 1024, 2048, 4095, 4096, 8192, 16384, 32768, LARGEST];
 /// The lines: B in the panel over n, and n in the panel over B.
-const BLOCK_LINES: [usize; 4] = [4096, 512, 64, 1];
+const BLOCK_LINES: [usize; 4] = [LARGEST, 4096, 64, 1];
 const DISK_LINES: [usize; 4] = [255, 64, 8, 1];
 const COLOURS: [&str; 4] = ["#1b4965", "#b5502c", "#3f7d45", "#7a4b94"];
 
@@ -94,7 +94,8 @@ pub fn svg() -> String {
     svg += "<rect width='920' height='430' fill='#fff'/>\n";
     writeln!(svg, "<text x='20' y='24' font-size='15'>Time of one encode, {}, one thread</text>", processor()).unwrap();
     let over_n = Panel { left: 75.0, most: 255.0, title: "n, data disks", ticks: &[1, 2, 4, 8, 16, 32, 64, 128, 255] };
-    let over_b = Panel { left: 520.0, most: 4096.0, title: "B, bytes in a block", ticks: &[1, 4, 16, 64, 256, 1024, 4096] };
+    let over_b =
+        Panel { left: 520.0, most: LARGEST as f64, title: "B, bytes in a block", ticks: &[1, 4, 16, 64, 256, 1024, 4096, LARGEST] };
     for panel in [&over_n, &over_b] {
         panel.axes(&mut svg);
     }

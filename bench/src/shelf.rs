@@ -2,11 +2,13 @@
 //! contestant works on the same bytes.
 
 use outside::random::Random;
+use outside::stripe::LARGEST_BLOCK;
 use std::alloc::{alloc_zeroed, Layout};
 use std::ffi::c_void;
 
-/// The largest block.
+/// A usual block, and the largest.
 pub const BLOCK: usize = 4096;
+pub const LARGEST: usize = LARGEST_BLOCK as usize;
 const PAGE: usize = 4096;
 
 #[link(name = "shelf", kind = "static")]

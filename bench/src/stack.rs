@@ -1,11 +1,14 @@
 //! How much stack a call uses: it runs on a painted stack of its own, and what it wrote to is counted.
 
-use crate::shelf::{bench_check, shelf_encode, shelf_rebuild, shelf_write, Stripe, REFUSAL};
+use crate::shelf::{bench_check, shelf_encode, shelf_rebuild, shelf_write, Stripe, BLOCK, LARGEST, REFUSAL};
 use outside::random::Random;
 use outside::stripe::{NONE, P, Q};
 use std::arch::asm;
 
 const ROOM: usize = 1 << 16;
+
+/// What no call may exceed.
+const LIMIT: usize = 8192;
 
 #[repr(align(16))]
 struct Room([u8; ROOM]);
@@ -37,7 +40,7 @@ fn used(function: usize, arguments: [u64; 8], paint: u8) -> (u64, usize) {
 fn most(done: impl Fn(u64) -> bool, calls: impl Fn(Stripe) -> Vec<(usize, [u64; 8])>) -> usize {
     let mut random = Random::new(2);
     let mut most = 0;
-    for (n, b) in [(1, 1), (2, 7), (8, 4096), (255, 4096)] {
+    for (n, b) in [(1, 1), (2, 7), (8, BLOCK), (255, BLOCK), (1, LARGEST), (8, LARGEST), (255, LARGEST)] {
         for (function, arguments) in calls(Stripe::random(&mut random, n, b)) {
             for paint in [0x5a, 0xc3] {
                 let (result, bytes) = used(function, arguments, paint);
@@ -55,7 +58,7 @@ pub fn print() {
         let [n, b, start, length] = head(stripe);
         [n, b, start, length, rest[0], rest[1], rest[2], rest[3]]
     };
-    let bytes = Random::new(3).bytes(4096);
+    let bytes = Random::new(3).bytes(LARGEST);
     let zero = |result: u64| result as u8 == 0;
     let encode = most(zero, |stripe| vec![(shelf_encode as *const () as usize, call(stripe, [0; 4]))]);
     let write = most(zero, |stripe| {
@@ -75,5 +78,8 @@ pub fn print() {
     println!("|---|---|");
     for (name, most) in [("shelf_encode", encode), ("shelf_write", write), ("shelf_rebuild", rebuild), ("bench_check", check)] {
         println!("| `{name}` | {most} |");
+        assert!(most <= LIMIT, "{name} uses more than {LIMIT} bytes");
     }
+    println!();
+    println!("The limit is {LIMIT} bytes.");
 }

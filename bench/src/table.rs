@@ -2,8 +2,8 @@
 
 use crate::isal::Isal;
 use crate::linux::Linux;
-use crate::measure::{best, TURN, TURNS};
-use crate::shelf::{Stripe, BLOCK};
+use crate::measure::{best, CALLS, TURN, TURNS, WARM};
+use crate::shelf::{Stripe, BLOCK, LARGEST};
 use crate::{plain, processor, two_disks, verify, verify_check};
 use outside::random::Random;
 use outside::stripe::{NONE, P, Q};
@@ -74,6 +74,17 @@ fn spoiled(random: &mut Random, n: usize, b: usize) -> Stripe {
     stripe
 }
 
+/// What encode, check and rebuild of two data disks are to reach.
+fn targets(n: usize, b: usize) -> [Target; 3] {
+    match (n, b) {
+        (_, BLOCK) => [Target::Of(1.0, GENERATE), Target::Of(0.6, CHECK), Target::Of(1.0, DATA2)],
+        (8, LARGEST) => [Target::Of(0.95, GENERATE), Target::Of(0.95, CHECK), Target::Of(1.0, DATA2)],
+        (_, LARGEST) => [Target::Of(0.95, GENERATE), Target::Beside(CHECK), Target::Beside(DATA2)],
+        (_, ODD) => [Target::Own(0.9), Target::Alone, Target::Alone],
+        _ => [Target::Alone, Target::Alone, Target::Alone],
+    }
+}
+
 /// The rows of one shape, over one stripe, each found right.
 fn rows(random: &mut Random, isal: Option<Isal>, linux: Option<Linux>, n: usize, b: usize) -> Vec<Row> {
     let stripe = Stripe::random(random, n, b);
@@ -85,15 +96,9 @@ fn rows(random: &mut Random, isal: Option<Isal>, linux: Option<Linux>, n: usize,
     let mut rows = vec![];
     let data = n * b;
     let mut add = |call, data, target, run| rows.push(Row { call, n, b, data, target, run, seconds: f64::NAN });
-    let whole = match b {
-        BLOCK => Target::Of(1.0, GENERATE),
-        ODD => Target::Own(0.9),
-        _ => Target::Alone,
-    };
+    let [whole, clean, two] = targets(n, b);
     add("encode", data, whole, Box::new(move || stripe.encode()));
-    let clean = if b == BLOCK { Target::Of(0.6, CHECK) } else { Target::Alone };
     add(CLEAN, data, clean, Box::new(move || assert_eq!(stripe.check(), 0)));
-    let two = if b == BLOCK { Target::Of(1.0, DATA2) } else { Target::Alone };
     add(TWO, data, two, Box::new(move || stripe.rebuild(first, second)));
     if (n, b) == (8, BLOCK) {
         for (call, device, least) in [("rebuild of one data disk", first, 1.3), ("rebuild of P", P, 1.3), ("rebuild of Q", Q, 0.8)] {
@@ -107,6 +112,12 @@ fn rows(random: &mut Random, isal: Option<Isal>, linux: Option<Linux>, n: usize,
         add("write of 50 bytes", data * 50 / b, Target::Beside(WRITE), write(random, stripe, 50));
         let stripe = spoiled(random, n, b);
         add("check, a wrong byte in every chunk", data, Target::Beside(CLEAN), Box::new(move || assert_ne!(stripe.check(), 0)));
+    }
+    if b >= BLOCK {
+        let room = Stripe::random(random, n, b);
+        add("plain read of the data", data, Target::Peer, Box::new(move || plain::read(&{ stripe }.bytes()[..data])));
+        let copy = move || plain::copy(&{ stripe }.bytes()[..data], &mut { room }.bytes()[..data]);
+        add("plain copy of the data", data, Target::Peer, Box::new(copy));
     }
     add(PLAIN, data, Target::Peer, Box::new(move || plain::encode(n, b, { stripe }.bytes())));
     if let Some(call) = isal {
@@ -130,7 +141,7 @@ fn shown(ratio: Option<f64>) -> String {
 
 pub fn print(isal: Option<Isal>, linux: Option<Linux>) {
     let mut random = Random::new(1);
-    let shapes = [(8, BLOCK), (8, ODD), (8, 100), (8, 32), (16, BLOCK), (16, 32), (255, BLOCK)];
+    let shapes = [(8, BLOCK), (8, ODD), (8, 100), (8, 32), (16, BLOCK), (16, 32), (255, BLOCK), (8, LARGEST), (255, LARGEST)];
     let mut rows: Vec<Row> = shapes.into_iter().flat_map(|(n, b)| rows(&mut random, isal, linux, n, b)).collect();
     let seconds = best(TURNS, &rows.iter().map(|row| &*row.run).collect::<Vec<_>>());
     for (row, seconds) in rows.iter_mut().zip(seconds) {
@@ -138,16 +149,18 @@ pub fn print(isal: Option<Isal>, linux: Option<Linux>) {
     }
     // the calls in the order in which they were measured first, each over B and n, whole blocks first
     let order: Vec<&str> = rows.iter().map(|row| row.call).collect();
-    rows.sort_by_key(|row| (order.iter().position(|&call| call == row.call), BLOCK - row.b, row.n));
+    rows.sort_by_key(|row| (order.iter().position(|&call| call == row.call), std::cmp::Reverse(row.b), row.n));
     let row = |call: &str, n: usize, b: usize| rows.iter().find(|row| (row.call, row.n, row.b) == (call, n, b));
 
-    println!("Processor: {}. One thread; best of {TURNS} turns of {} ms, the calls taking turns.", processor(), TURN * 1000.0);
-    println!("Each result was first found equal to that of the independent implementation.");
+    println!("Processor: {}. One thread; best of {TURNS} turns, the calls taking turns. A turn begins with {WARM} calls that", processor());
+    println!("are not timed, so that the caches are as the call itself leaves them, and goes on for {} ms, at least", TURN * 1000.0);
+    println!("{CALLS} calls. Each result was first found equal to that of the independent implementation.");
     println!("Each stripe holds random bytes, begins on a page and is the same for all calls of its n and B. Buffers were not");
     println!("cleared first, and a stripe stays in the caches between calls as far as it fits.");
     let found = |found: bool| if found { "found" } else { "not found, so its ratios are missing" };
     println!("ISA-L, with pq_gen_sse and pq_check_sse: {}.", found(isal.is_some()));
     println!("Linux's lib/raid6 from the package linux-source, data2 of raid6_recov_ssse3 over raid6_sse2x4: {}.", found(linux.is_some()));
+    println!("It takes a block of at most a page, so it is built for pages of 64 KiB, as some kernels have.");
     println!();
     println!("| call | n | B | microseconds | MB/s of data | to plain Rust | to pq_gen_sse | wanted | reached | enough |");
     println!("|---|---|---|---|---|---|---|---|---|---|");
@@ -185,6 +198,7 @@ pub fn print(isal: Option<Isal>, linux: Option<Linux>) {
     }
     println!();
     println!("A call's data are n * B bytes, for a write of a block too, so that its ratio is that of the times; a write of less has");
-    println!("its share of them. 1 MB is 1,000,000 bytes.");
+    println!("its share of them. 1 MB is 1,000,000 bytes. The plain read sums up the data as words of 64 bits, and the plain copy");
+    println!("puts them elsewhere: an encode reads them once, too, and writes 2 * B bytes.");
     println!("Of the {compared} rows that could be compared, {enough} reach what is wanted.");
 }

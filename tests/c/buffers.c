@@ -1,7 +1,7 @@
 /*
  * Buffers at every alignment and at the edge of what may be touched: between two pages without access, at the end of
  * the first and at the start of the last, so that a read or a write of one byte too many is a crash. Each call gives
- * the same bytes there as in a block of its own from malloc. With the argument 'small' only small shapes are tried.
+ * the same bytes there as in a block of its own from malloc. With the argument 'small' only small stripes are tried.
  */
 #define _DEFAULT_SOURCE
 #include "check.h"
@@ -127,7 +127,7 @@ static void unaligned(uint64_t n, uint64_t b)
 }
 
 static const uint64_t DISKS[] = {1, 2, 3, 8, 255};
-static const uint64_t BLOCKS[] = {1, 2, 7, 8, 63, 64, 65, 127, 128, 129, 512, 4095, 4096};
+static const uint64_t BLOCKS[] = {1, 2, 7, 8, 63, 64, 65, 127, 128, 129, 512, 4095, 4096, 4097, 65535, 65536};
 
 /* Tries the shapes with at most so many bytes of data. */
 static void shapes(void (*test)(uint64_t n, uint64_t b), uint64_t most)
@@ -143,6 +143,9 @@ static int small;
 static void fences(void)
 {
     shapes(at_the_fences, small ? 600 : UINT64_MAX);
+    /* the largest block in its smallest stripe */
+    if (small)
+        at_the_fences(1, SHELF_MAX_BLOCK);
 }
 
 static void alignments(void)

@@ -5,7 +5,7 @@
 #include <string.h>
 
 /* Numbers that a narrower parameter would cut to a valid one, and the largest. */
-static const uint64_t WIDE[] = {65536, 65537, 65536 + 256, (1ull << 32) + 1, (1ull << 32) + 256, (1ull << 63) + 1, UINT64_MAX - 1, UINT64_MAX};
+static const uint64_t WIDE[] = {65537, 65536 + 256, 131072, 131072 + 2, (1ull << 32) + 1, (1ull << 32) + 256, (1ull << 63) + 1, UINT64_MAX - 1, UINT64_MAX};
 #define WIDE_COUNT (sizeof WIDE / sizeof *WIDE)
 
 /* Two data disks with blocks of two bytes, and bytes for a write: what the calls below are lent. */
@@ -56,9 +56,9 @@ static void shapes(void)
 {
     shape(SHELF_BAD_DISKS, 0, B, 4);
     shape(SHELF_BAD_DISKS, 0, 0, LENGTH);
-    shape(SHELF_BAD_DISKS, 256, 4097, LENGTH);
+    shape(SHELF_BAD_DISKS, 256, 65537, LENGTH);
     shape(SHELF_BAD_BLOCK, N, 0, 0);
-    shape(SHELF_BAD_BLOCK, N, 4097, LENGTH);
+    shape(SHELF_BAD_BLOCK, N, 65537, LENGTH);
     shape(SHELF_BAD_BLOCK, 255, 0, LENGTH);
     for (size_t k = 0; k < WIDE_COUNT; k++) {
         shape(SHELF_BAD_DISKS, WIDE[k], B, LENGTH);
@@ -69,7 +69,9 @@ static void shapes(void)
         shape(SHELF_BAD_LENGTH, N, B, length);
     shape(SHELF_BAD_LENGTH, N, 1, LENGTH);
     shape(SHELF_BAD_LENGTH, 1, B, LENGTH);
-    shape(SHELF_BAD_LENGTH, 255, 4096, LENGTH);
+    shape(SHELF_BAD_LENGTH, N, 4097, LENGTH);
+    shape(SHELF_BAD_LENGTH, N, 65536, LENGTH);
+    shape(SHELF_BAD_LENGTH, 255, 65536, LENGTH);
     /* numbers whose (n + 2) * b comes out as the length in 64 bits */
     shape(SHELF_BAD_DISKS, UINT64_MAX - 1, 1, 0);
     shape(SHELF_BAD_DISKS, (1ull << 63) + 2, 2, LENGTH);
@@ -137,11 +139,29 @@ static void widest_stripe(void)
 /* The header's limits are the last numbers that are taken. */
 static void limits(void)
 {
-    static uint8_t room[3 * (SHELF_MAX_BLOCK + 1)];
+    static uint8_t room[3 * (SHELF_MAX_BLOCK + 1)], before[sizeof room];
+    const uint64_t most = SHELF_MAX_BLOCK, above = most + 1;
+    CHECK(SHELF_MAX_DISKS == 255 && SHELF_MAX_BLOCK == 65536);
     CHECK(shelf_encode(SHELF_MAX_DISKS, 1, room, SHELF_MAX_DISKS + 2) == SHELF_DONE);
     CHECK(shelf_encode(SHELF_MAX_DISKS + 1, 1, room, SHELF_MAX_DISKS + 3) == SHELF_BAD_DISKS);
-    CHECK(shelf_encode(1, SHELF_MAX_BLOCK, room, 3 * SHELF_MAX_BLOCK) == SHELF_DONE);
-    CHECK(shelf_encode(1, SHELF_MAX_BLOCK + 1, room, 3 * (SHELF_MAX_BLOCK + 1)) == SHELF_BAD_BLOCK);
+
+    for (size_t i = 0; i < sizeof room; i++)
+        before[i] = room[i] = (uint8_t)(17 * i + i / 251);
+    CHECK(shelf_encode(1, above, room, 3 * above) == SHELF_BAD_BLOCK);
+    CHECK(shelf_write(1, above, room, 3 * above, 0, most, bytes, 1) == SHELF_BAD_BLOCK);
+    CHECK(shelf_rebuild(1, above, room, 3 * above, 0, SHELF_Q) == SHELF_BAD_BLOCK);
+    CHECK(memcmp(room, before, sizeof room) == 0);
+
+    CHECK(shelf_write(1, most, room, 3 * most, 0, most - 1, bytes, 2) == SHELF_BAD_STRETCH);
+    CHECK(shelf_write(1, most, room, 3 * most, 0, most, bytes, 1) == SHELF_BAD_STRETCH);
+    CHECK(shelf_write(1, most, room, 3 * most, 0, above, bytes, 0) == SHELF_BAD_STRETCH);
+    CHECK(shelf_write(1, most, room, 3 * most, 0, most, bytes, 0) == SHELF_DONE);
+    CHECK(memcmp(room, before, sizeof room) == 0);
+
+    CHECK(shelf_encode(1, most, room, 3 * most) == SHELF_DONE);
+    CHECK(memcmp(room, before, most) == 0 && memcmp(room, room + most, most) == 0 && memcmp(room, room + 2 * most, most) == 0);
+    CHECK(shelf_write(1, most, room, 3 * most, 0, most - 1, bytes, 1) == SHELF_DONE);
+    CHECK(room[most - 1] == bytes[0] && room[2 * most - 1] == bytes[0] && room[3 * most - 1] == bytes[0]);
 }
 
 static void no_buffer(void)

@@ -10,7 +10,8 @@ pub const CHECK: u8 = 3;
 /// What the program's buffer holds of its input.
 pub const CAPACITY: usize = 61455;
 const HEADER: usize = 14;
-const LARGEST_STRIPE: u128 = 61440;
+/// The longest stripe that a job may have.
+pub const LARGEST_STRIPE: u64 = 61440;
 
 /// The header's fields, as a valid job has them.
 #[derive(Clone, Copy)]
@@ -70,7 +71,7 @@ fn run(job: &[u8]) -> Result<Vec<u8>, u8> {
         (19, ![ENCODE, REBUILD, CHECK].contains(&command)),
         bad_n(n),
         bad_b(b),
-        (20, size(n, b) > LARGEST_STRIPE),
+        (20, size(n, b) > u128::from(LARGEST_STRIPE)),
         bad_length(n, b, bytes.len()),
         bad_device,
         twice,
@@ -113,11 +114,17 @@ mod tests {
     }
 
     #[test]
-    fn sizes_of_the_bench_figures() {
+    fn sizes_about_the_limits() {
         let result = |n, b, length| answer(&Header::new(ENCODE, n, b, NO_DEVICE, NO_DEVICE).with(&vec![0; length]))[5];
         assert_eq!(result(13, 4096, 61440), 0);
         assert_eq!(result(14, 4096, 65536), 20);
-        assert_eq!(result(1, 4097, 3 * 4097), 2);
+        assert_eq!(result(1, 4097, 3 * 4097), 0);
+        assert_eq!(result(12, 4097, 57358), 0);
+        assert_eq!(result(13, 4097, 61455), 20);
+        assert_eq!(result(1, 20480, 61440), 0);
+        assert_eq!(result(1, 20481, 61443), 20);
+        assert_eq!(result(1, 65535, 0), 20);
+        assert_eq!(result(1, 0, 0), 2);
         assert_eq!(result(13, 4096, 61441), 3);
         assert_eq!(result(256, 1, 258), 1);
     }

@@ -7,6 +7,8 @@ pub const P: u64 = 256;
 pub const Q: u64 = 257;
 pub const NONE: u64 = 65535;
 
+pub const LARGEST_BLOCK: u64 = 65536;
+
 /// The first refusal whose test holds, or 0.
 pub fn first(tests: &[(u8, bool)]) -> u8 {
     tests.iter().find(|test| test.1).map_or(0, |test| test.0)
@@ -22,7 +24,7 @@ pub fn bad_n(n: u64) -> (u8, bool) {
 }
 
 pub fn bad_b(b: u64) -> (u8, bool) {
-    (2, b == 0 || b > 4096)
+    (2, b == 0 || b > LARGEST_BLOCK)
 }
 
 pub fn bad_length(n: u64, b: u64, length: usize) -> (u8, bool) {
@@ -109,7 +111,10 @@ mod tests {
     fn encode_refuses_in_order() {
         assert_eq!(encode(256, 0, &mut []), 1);
         assert_eq!(encode(0, 1, &mut [0; 2]), 1);
-        assert_eq!(encode(1, 4097, &mut []), 2);
+        assert_eq!(encode(1, 0, &mut []), 2);
+        assert_eq!(encode(1, 65537, &mut []), 2);
+        assert_eq!(encode(1, 65536, &mut []), 3);
+        assert_eq!(encode(1, 65536, &mut [0; 3 * 65536]), 0);
         assert_eq!(encode(1, 1, &mut [0; 4]), 3);
         assert_eq!(encode(1, 1, &mut [0; 3]), 0);
     }

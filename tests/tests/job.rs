@@ -6,7 +6,7 @@ use std::os::unix::process::ExitStatusExt;
 use std::path::Path;
 use std::time::Duration;
 
-use outside::job::{self, Header, CHECK, ENCODE, REBUILD};
+use outside::job::{self, Header, CHECK, ENCODE, LARGEST_STRIPE, REBUILD};
 use outside::program::{self, ClosedPipe};
 use outside::random::{trials, Random};
 use outside::shapes::{BLOCKS, DISKS};
@@ -88,7 +88,7 @@ fn every_length_up_to_a_whole_job() {
     }
 }
 
-/// The largest job that is not refused.
+/// A job as long as one that is not refused can be.
 fn largest() -> Vec<u8> {
     Header::new(ENCODE, 13, 4096, NONE, NONE).with(&Random::new(1).bytes(61440))
 }
@@ -147,11 +147,20 @@ fn a_reader_that_goes_away_without_a_signal() {
     assert_eq!(end.errors, NOT_WHOLE);
 }
 
-/// A header of which the most likely damage is none.
+/// The largest block for which a job has room.
+fn largest_block(n: u64) -> u64 {
+    LARGEST_STRIPE / (n + 2)
+}
+
+/// A header of which the most likely damage is none; rarely its stripe is too long.
 fn random_header(random: &mut Random) -> Header {
     let n = if random.once_in(20) { random.within(1, 255) } else { random.within(1, 12) };
-    let fits = (61440 / (n + 2)).min(4096);
-    let b = if random.once_in(50) { random.within(1, fits) } else { random.within(1, 24.min(fits)) };
+    let fits = largest_block(n as u64) as usize;
+    let b = match random.within(0, 99) {
+        0 => random.within(1, fits),
+        1 => random.within(fits, fits + 1),
+        _ => random.within(1, 24.min(fits)),
+    };
     let device = |random: &mut Random| match random.within(0, n + 2) {
         place if place < n => place as u16,
         place => [P, Q, NONE][place - n],
@@ -164,7 +173,7 @@ fn random_header(random: &mut Random) -> Header {
 /// A number near a border, or any.
 fn random_number(random: &mut Random) -> u16 {
     match random.within(0, 1) {
-        0 => random.pick(&[0, 1, 2, 14, 254, 255, 256, 257, 258, 4095, 4096, 4097, 65534, 65535]),
+        0 => random.pick(&[0, 1, 2, 14, 254, 255, 256, 257, 258, 4095, 4096, 4097, 20480, 20481, 65534, 65535]),
         _ => random.number() as u16,
     }
 }
@@ -208,12 +217,13 @@ fn compare(case: &str, job: &[u8]) {
     assert!(got == want, "{case}: the job {} is answered by {}, not by {}", start(job), start(&got), start(&want));
 }
 
-/// Every shape that a job has room for.
+/// Every shape that a job has room for, and for each n the largest block of such and the next.
 #[test]
 fn every_shape() {
     let mut random = Random::new(2);
     for n in DISKS {
-        for b in BLOCKS.into_iter().filter(|b| (n + 2) * b <= 61440) {
+        let largest = largest_block(n);
+        for b in BLOCKS.into_iter().filter(|&b| b < largest).chain([largest, largest + 1]) {
             let case = format!("n {n}, b {b}");
             let job = |command, first, second, stripe: &[u8]| Header::new(command, n as u16, b as u16, first, second).with(stripe);
             let mut stripe = random.bytes(((n + 2) * b) as usize);

@@ -2,8 +2,8 @@
 //! that are accepted and calls that are refused.
 
 use outside::random::{trials, Random};
-use outside::shapes::{BLOCKS, DISKS};
-use outside::stripe::{self, NONE, P, Q};
+use outside::shapes::{BLOCKS, DISKS, FEW_DISKS, LARGE_BLOCKS};
+use outside::stripe::{self, LARGEST_BLOCK, NONE, P, Q};
 use outside::table::Table;
 
 #[link(name = "shelf", kind = "static")]
@@ -14,7 +14,7 @@ extern "C" {
 }
 
 /// Numbers that no parameter takes, and that a narrower one would cut to a valid number.
-const WIDE: [u64; 7] = [65536, 65537, 65536 + 256, (1 << 32) + 1, (1 << 32) + 2, 1 << 63, u64::MAX];
+const WIDE: [u64; 8] = [65537, 65536 + 256, 131072, 131072 + 2, (1 << 32) + 1, (1 << 32) + 2, 1 << 63, u64::MAX];
 
 /// A call by its numbers and new bytes.
 #[derive(Clone, Debug)]
@@ -110,27 +110,113 @@ fn recover(random: &mut Random, n: u64, b: u64, encoded: &[u8], call: &Call) {
     assert!(stripe == encoded, "not what was lost; n {n}, b {b}: {call:?}");
 }
 
+/// Each row of the table of losses, with the first and the last data disk.
+fn losses(n: u64) -> Vec<(u64, u64)> {
+    let (first, last) = (0, n - 1);
+    let of = |disk| [(disk, NONE), (disk, P), (disk, Q)];
+    let mut losses = vec![(P, NONE), (Q, NONE), (P, Q)];
+    losses.extend(of(first));
+    if first != last {
+        losses.extend(of(last));
+        losses.push((first, last));
+    }
+    losses
+}
+
+/// Rebuilds any bytes under both orders of two names, with the same result.
+fn rebuild_in_any_order(n: u64, b: u64, stripe: &[u8], first: u64, second: u64) {
+    let (mut once, mut turned) = (stripe.to_vec(), stripe.to_vec());
+    assert_eq!(Call::Rebuild { first, second }.compare(n, b, &mut once), 0);
+    if second != NONE {
+        assert_eq!(Call::Rebuild { first: second, second: first }.proved(n, b, &mut turned), 0);
+        assert!(turned == once, "the order matters; n {n}, b {b}, {first} and {second}");
+    }
+}
+
+/// Loses one or two devices of an encoded stripe, and rebuilds under both orders of two names.
+fn recover_in_any_order(random: &mut Random, n: u64, b: u64, encoded: &[u8], first: u64, second: u64) {
+    recover(random, n, b, encoded, &Call::Rebuild { first, second });
+    if second != NONE {
+        recover(random, n, b, encoded, &Call::Rebuild { first: second, second: first });
+    }
+}
+
+/// Writes that end with the block, and writes that would end past it.
+fn writes_about_the_end(random: &mut Random, n: u64, b: u64, stripe: &mut [u8]) {
+    for (offset, count, result) in [(b - 1, 1, 0), (0, b, 0), (b, 0, 0), (b - 1, 2, 6), (b, 1, 6), (0, b + 1, 6), (b + 1, 0, 6)] {
+        let bytes = random.bytes(count as usize);
+        assert_eq!(Call::Write { disk: n - 1, offset, bytes }.compare(n, b, stripe), result);
+    }
+}
+
+/// Every call on one shape, first on a stripe of any bytes, then on an encoded one.
+fn shape(random: &mut Random, n: u64, b: u64) {
+    let mut stripe = random_stripe(random, n, b);
+    for _ in 0..3 {
+        assert_eq!(random_write(random, n, b).compare(n, b, &mut stripe), 0);
+        assert_eq!(random_rebuild(random, n).compare(n, b, &mut stripe.clone()), 0);
+    }
+    writes_about_the_end(random, n, b, &mut stripe);
+    for (first, second) in losses(n) {
+        rebuild_in_any_order(n, b, &stripe, first, second);
+    }
+    assert_eq!(Call::Encode.compare(n, b, &mut stripe), 0);
+    for _ in 0..3 {
+        assert_eq!(random_write(random, n, b).compare(n, b, &mut stripe), 0);
+        let call = random_rebuild(random, n);
+        recover(random, n, b, &stripe, &call);
+    }
+    for (first, second) in losses(n) {
+        recover_in_any_order(random, n, b, &stripe, first, second);
+    }
+}
+
 #[test]
 fn every_shape() {
     let mut random = Random::new(1);
     for n in DISKS {
         for b in BLOCKS {
+            shape(&mut random, n, b);
+        }
+    }
+}
+
+#[test]
+fn every_shape_of_large_blocks() {
+    let mut random = Random::new(6);
+    for n in FEW_DISKS {
+        for b in LARGE_BLOCKS {
+            shape(&mut random, n, b);
+        }
+    }
+}
+
+/// The sizes next to those that are taken, with the length that such a stripe would have.
+#[test]
+fn no_block_and_larger_blocks_than_the_largest() {
+    let mut random = Random::new(7);
+    for n in FEW_DISKS {
+        for b in [0, LARGEST_BLOCK + 1] {
             let mut stripe = random_stripe(&mut random, n, b);
-            for _ in 0..3 {
-                assert_eq!(random_write(&mut random, n, b).compare(n, b, &mut stripe), 0);
-                assert_eq!(random_rebuild(&mut random, n).compare(n, b, &mut stripe.clone()), 0);
+            let write = Call::Write { disk: 0, offset: 0, bytes: vec![] };
+            let rebuilds = losses(n).into_iter().map(|(first, second)| Call::Rebuild { first, second });
+            for call in rebuilds.chain([Call::Encode, write]) {
+                assert_eq!(call.compare(n, b, &mut stripe), 2);
             }
-            let (first, last) = (0, n - 1);
-            for (first, second) in [(last, NONE), (P, NONE), (Q, NONE), (last, P), (Q, first), (P, Q), (last, first)] {
-                if first != second {
-                    assert_eq!(Call::Rebuild { first, second }.compare(n, b, &mut stripe.clone()), 0);
-                }
-            }
-            assert_eq!(Call::Encode.compare(n, b, &mut stripe), 0);
-            for _ in 0..3 {
-                assert_eq!(random_write(&mut random, n, b).compare(n, b, &mut stripe), 0);
-                let call = random_rebuild(&mut random, n);
-                recover(&mut random, n, b, &stripe, &call);
+        }
+    }
+}
+
+/// Each of many data disks, alone and with a parity, with the disk above it and with one far from it.
+#[test]
+fn every_disk_of_many() {
+    let mut random = Random::new(8);
+    for (n, b) in [(65, 1024), (97, 2047), (255, 1025)] {
+        let mut encoded = random_stripe(&mut random, n, b);
+        assert_eq!(Call::Encode.compare(n, b, &mut encoded), 0);
+        for disk in 0..n {
+            for second in [NONE, P, Q, (disk + 1) % n, (disk + n / 2) % n] {
+                recover(&mut random, n, b, &encoded, &Call::Rebuild { first: disk, second });
             }
         }
     }
@@ -248,7 +334,7 @@ fn any_number(random: &mut Random, near: &[u64]) -> u64 {
     match random.within(0, 9) {
         0 => random.pick(&WIDE),
         1 => random.number(),
-        2 => random.pick(&[0, 254, 255, 256, 257, 258, 4095, 4096, 4097, 65534, 65535]),
+        2 => random.pick(&[0, 254, 255, 256, 257, 258, 4095, 4096, 4097, 65534, 65535, 65536, 65537]),
         _ => random.pick(near),
     }
 }
@@ -289,6 +375,32 @@ fn any_numbers_and_lengths() {
 
 /// The series of demand 3: writes, accepted or refused, refused rebuilds, and, where the start is
 /// encoded, losses with their rebuild. The table sees numbers and new bytes alone.
+fn series(random: &mut Random, n: u64, b: u64, encoded: bool) {
+    let mut stripe = random_stripe(random, n, b);
+    if encoded {
+        assert_eq!(Call::Encode.proved(n, b, &mut stripe), 0);
+    }
+    let mut table = Table::new(n, b, &stripe);
+    for _ in 0..random.within(0, 60) {
+        let loss = random_rebuild(random, n);
+        if encoded && random.once_in(3) {
+            lose(random, n, b, &mut stripe, &loss);
+            assert_eq!(loss.proved(n, b, &mut stripe), 0);
+            continue;
+        }
+        let call = if random.once_in(2) { random_write(random, n, b) } else { any_call(random, n, b) };
+        let (called_n, called_b) = (any_number(random, &[n]), any_number(random, &[b]));
+        let refused = call.independent(called_n, called_b, &mut stripe.clone()) != 0;
+        match &call {
+            _ if refused => {}
+            Call::Write { disk, offset, bytes } if (called_n, called_b) == (n, b) => table.accepted_write(*disk, *offset, bytes),
+            _ => continue, // no member of the series
+        }
+        assert_eq!(call.proved(called_n, called_b, &mut stripe) != 0, refused, "n {n}, b {b}: {call:?}");
+    }
+    assert!(stripe == table.stripe(), "n {n}, b {b}");
+}
+
 #[test]
 fn series_against_a_plain_table() {
     trials(400, |random| {
@@ -297,29 +409,17 @@ fn series_against_a_plain_table() {
         } else {
             (random.within(1, 20) as u64, random.within(1, 100) as u64)
         };
-        let mut stripe = random_stripe(random, n, b);
         let encoded = random.once_in(2);
-        if encoded {
-            assert_eq!(Call::Encode.proved(n, b, &mut stripe), 0);
-        }
-        let mut table = Table::new(n, b, &stripe);
-        for _ in 0..random.within(0, 60) {
-            let loss = random_rebuild(random, n);
-            if encoded && random.once_in(3) {
-                lose(random, n, b, &mut stripe, &loss);
-                assert_eq!(loss.proved(n, b, &mut stripe), 0);
-                continue;
-            }
-            let call = if random.once_in(2) { random_write(random, n, b) } else { any_call(random, n, b) };
-            let (called_n, called_b) = (any_number(random, &[n]), any_number(random, &[b]));
-            let refused = call.independent(called_n, called_b, &mut stripe.clone()) != 0;
-            match &call {
-                _ if refused => {}
-                Call::Write { disk, offset, bytes } if (called_n, called_b) == (n, b) => table.accepted_write(*disk, *offset, bytes),
-                _ => continue, // no member of the series
-            }
-            assert_eq!(call.proved(called_n, called_b, &mut stripe) != 0, refused, "n {n}, b {b}: {call:?}");
-        }
-        assert!(stripe == table.stripe(), "n {n}, b {b}");
+        series(random, n, b, encoded);
     });
+}
+
+#[test]
+fn series_on_large_blocks() {
+    let mut random = Random::new(10);
+    for n in FEW_DISKS {
+        for encoded in [false, true] {
+            series(&mut random, n, LARGEST_BLOCK, encoded);
+        }
+    }
 }

@@ -1,4 +1,4 @@
-// The check, exported for the bench alone, which calls it from outside. No premise is put on the caller.
+// The check, exported for the bench and the tests alone, which call it from outside. No premise is put on the caller.
 use shape::Geometry;
 use stripe::Checked;
 ghost use Rattle.shape.specs.Layout.{geometry};
