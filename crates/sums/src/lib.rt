@@ -22,7 +22,7 @@ pub const CHUNKS: usize = 16;
 
 pub const STRIP: usize = CHUNKS * WIDTH;
 
-// The disks that are read in a chunk of a strip before the next chunk.
+// The disks that are added to a chunk of a strip before its next chunk.
 const GROUP: usize = 32;
 
 // With more disks than these a stripe is worked on in strips.
@@ -85,9 +85,8 @@ pub fn part_survivors(g: Geometry, stripe: &[u8], i: usize, w: usize, x: usize, 
     Sums { p, q }
 }
 
-// The same of a strip, left in p and q. Where many disks lie far apart this is faster than chunk after
-// chunk: of each disk a strip is read before the next disks. p and q stay where the stripe has not
-// these columns.
+// The same of a strip, left in p and q; they stay where the stripe has not these columns. With many
+// disks this is faster than chunk after chunk: a strip of some disks is read before the next ones.
 pub fn strip_survivors(
     g: Geometry,
     stripe: &[u8],
@@ -243,7 +242,7 @@ fn add_to_strip(
     }
 }
 
-// The disks below `to` down to `from` without x and y, and below them the stored parities.
+// The disks below `to` down to `from` without x and y, and after the last disk the stored parities.
 fn add_group(
     g: Geometry,
     stripe: &[u8],
@@ -269,7 +268,7 @@ fn add_group(
     }
 }
 
-// Those above a lost disk, if it is one of them.
+// Those above a lost disk and the lost one as 00, if it is one of them. The first that is done.
 fn add_within(
     g: Geometry,
     stripe: &[u8],
