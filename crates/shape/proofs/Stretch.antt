@@ -6,9 +6,9 @@ use mathlib.Core.List.{List}
 use Prim.Native.Nat.{ℕ, suc, _+_, _-_, _≤_, _<_}
 use native.Mathlib.Omega.{arith}
 use lib.ListN.{length, getD, take, drop}
-use lib.Seq.{getD-take, getD-drop}
 use Rattle.base.specs.Table.{spliced}
 use Rattle.base.proofs.Choice.{below-or-not}
+use Rattle.base.proofs.Tails.{part-place}
 use Rattle.base.proofs.Splice.{length-spliced, spliced-in, spliced-low, spliced-high}
 use Rattle.column.specs.Column.{put}
 use Rattle.column.proofs.Put.{by-role, put-same, put-other}
@@ -67,6 +67,5 @@ module _ (g : Geometry) (s : List ℕ) (d i : ℕ) (m : List ℕ) (shaped : Well
 module _ (g : Geometry) (s : List ℕ) (role i w : ℕ) {at : ℕ} (is : at ≡ start g role) where
   pub part-at : (j : ℕ) → j < w → getD (take (at + i + w - (at + i)) (drop (at + i) s)) j 0 ≡ column g s (i + j) role
   part-at j h =
-      getD-take (at + i + w - (at + i)) (drop (at + i) s) j 0 (omega arith)
-      ∙ getD-drop (at + i) s j 0
+      part-place s (at + i) (at + i + w) j (omega arith)
       ∙ ap (λ (p : ℕ). getD s p 0) (omega arith)

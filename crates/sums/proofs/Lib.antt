@@ -1,3 +1,4 @@
 mod Horner
 mod Zeros
+mod Runs
 pub mod Strips

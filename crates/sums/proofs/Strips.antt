@@ -7,11 +7,11 @@ use Prim.Native.Nat.{ℕ, _+_, _-_, _≤_, _<_}
 use native.Mathlib.Omega.{arith}
 use borrow.Author.Tests.{eqb-true, leb-true, ne-eqb, le-leb}
 use lib.Dec.{eqb, ltb, leb}
-use lib.ListN.{length, getD, take, drop, replicate, length-take, length-drop}
-use lib.Seq.{getD-take, getD-drop}
+use lib.ListN.{length, getD, take, drop, replicate}
 use Rattle.base.specs.Table.{tabulate}
 use Rattle.base.proofs.Choice.{both-true}
 use Rattle.base.proofs.Fill.{Filled, fill-part}
+use Rattle.base.proofs.Tails.{part-length, part-place}
 use Rattle.base.proofs.Table.{length-tabulate, getD-tabulate, tabulate-same}
 use Rattle.gf256.specs.Field.{product, power}
 use Rattle.chunk.specs.Chunk.{width, each, stored, plus, Holds}
@@ -77,7 +77,7 @@ module _ (n : ℕ) (f : ℕ → Column) where
 -- ---- a chunk of a strip that is filled up to it, from the place c on
 module _ {p₀ p : List ℕ} {c : ℕ} {new : ℕ → ℕ} (fill : Filled (λ j v. new j) strip p₀ p c) (fits : c + width ≤ strip) where
   chunk-length : length (take (c + width - c) (drop c p)) ≡ width
-  chunk-length = simp (length-take, length-drop) (omega (arith, fill .long))
+  chunk-length = part-length p c (c + width) (omega arith) (omega (arith, fill .long)) ∙ omega arith
 
   -- it holds what the strip held
   pub chunk-loaded : (old : ℕ → ℕ) {a : List ℕ} (v : ℕ → ℕ) → p₀ ≡ tabulate strip old → a ≡ each (λ j. getD (take (c + width - c) (drop c p)) j 0)
@@ -87,8 +87,7 @@ module _ {p₀ p : List ℕ} {c : ℕ} {new : ℕ → ℕ} (fill : Filled (λ j 
       is
       ∙ tabulate-same width
       (λ j l.
-      getD-take (c + width - c) (drop c p) j 0 (omega arith)
-      ∙ getD-drop c p j 0
+      part-place p c (c + width) j (omega arith)
       ∙ fill .old (c + j) (omega arith)
       ∙ ap (λ (l : List ℕ). getD l (c + j) 0) was
       ∙ getD-tabulate strip old (c + j) 0 (omega arith)
@@ -120,8 +119,7 @@ module _ {g : Geometry} {s : List ℕ} {i : ℕ} (h : HasStrip g s i) (c : ℕ) 
   chunk-seen x y f before {l} is load j low =
       ap (λ (a : List ℕ). getD a j 0) load
       ∙ each-at _ j low
-      ∙ getD-take (c + width - c) (drop c l) j 0 (omega arith)
-      ∙ getD-drop c l j 0
+      ∙ part-place l c (c + width) j (omega arith)
       ∙ ap (λ (l : List ℕ). getD l (c + j) 0) (rw (has-strip-true h) at is)
       ∙ getD-tabulate strip (λ j. f (stripColumn g s i x y j)) (c + j) 0 (omega arith)
       ∙ ap (λ (k : ℕ). f (without x y (column g s k))) (omega arith)

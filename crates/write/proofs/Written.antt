@@ -7,9 +7,9 @@ use mathlib.Core.List.{List}
 use Prim.Native.Nat.{ℕ, _+_, _-_, _≤_, _<_}
 use native.Mathlib.Omega.{arith}
 use borrow.Author.Tests.{lt-ltb, le-ltb, le-leb, lt-leb}
-use lib.ListN.{length, getD, take, drop, length-take, length-drop}
-use lib.Seq.{getD-take, getD-drop}
+use lib.ListN.{length, getD, take, drop}
 use Rattle.base.specs.Choice.{choose}
+use Rattle.base.proofs.Tails.{part-length, part-place}
 use Rattle.base.proofs.Choice.{below-or-not}
 use Rattle.gf256.specs.Field.{sum, product, power}
 use Rattle.column.specs.Column.{Column, put, reedSolomon, writeColumn}
@@ -68,10 +68,7 @@ written-is {g} {disk} {i} {w} {c} new {s} {d = d} {after = after} h known is-c i
     at : d ≡ each (λ j. getD new j 0) → (j : ℕ) → j < width → getD d j 0 ≡ getD new j 0
     at is j l = ap (λ (x : List ℕ). getD x j 0) is ∙ each-at _ j l
 
--- the new bytes from j to e, lent as a part, and the columns that they are written to behind the first j
-pub lent-long : (new : List ℕ) (j e : ℕ) → j ≤ e → e ≤ length new → length (take (e - j) (drop j new)) ≡ e - j
-lent-long new j e begins ends = simp (length-take, length-drop) (omega arith)
-
+-- the new bytes from j to e, lent as a part, written behind the first j
 pub written-more : (g : Geometry) (disk offset : ℕ) (new : List ℕ) {j : ℕ} {s t u : List ℕ} (e : ℕ) → j ≤ e → e ≤ length new → offset + length new ≤ g .b
     → ColumnsMapped g offset j (λ k c. writeColumn reedSolomon (g .n) disk (getD new k 0) c) s t
     → ColumnsMapped g (offset + j) (length (take (e - j) (drop j new))) (λ k c. writeColumn reedSolomon (g .n) disk (getD (take (e - j) (drop j new)) k 0) c) t u
@@ -79,5 +76,5 @@ pub written-more : (g : Geometry) (disk offset : ℕ) (new : List ℕ) {j : ℕ}
 written-more g disk offset new {j} {t = t} e begins ends fits first second =
     columns-count (omega arith)
     (columns-more refl (omega arith) first
-    (columns-as (columns-count (lent-long new j e begins ends) second)
-    (λ k p. ap (λ (x : ℕ). writeColumn reedSolomon (g .n) disk x (column g t (offset + j + k))) (getD-take (e - j) (drop j new) k 0 p ∙ getD-drop j new k 0))))
+    (columns-as (columns-count (part-length new j e begins ends) second)
+    (λ k p. ap (λ (x : ℕ). writeColumn reedSolomon (g .n) disk x (column g t (offset + j + k))) (part-place new j e k p))))

@@ -8,11 +8,11 @@ use native.Mathlib.Omega.{arith}
 use borrow.Rule.Slice.PartMut.{putMid, post-is}
 use lib.ListN.{length, take, drop}
 use Rattle.base.specs.Table.{tabulate}
+use Rattle.base.proofs.Tails.{part-length}
 use Rattle.chunk.specs.Chunk.{width}
 use Rattle.column.specs.Column.{verdict}
 use Rattle.shape.specs.Layout.{column}
 use Rattle.verdict.proofs.Summary.{FilledWithSummary, summary-filled-none, summary-filled-part, summary-filled-all, summary-as}
-use Rattle.compare.proofs.Lent.{lent}
 use Rattle.compare.proofs.check_columns.Statement.{statement}
 use Rattle.compare.proofs.check_columns.Tie as tie
 
@@ -47,7 +47,7 @@ part-check-chunk-end c = omega (arith, c .before .before .loop .inv .1 .filled .
 check-chunk-requires : tie.Need-check-chunk-requires Inv-loop μ-loop
 check-chunk-requires c κs =
     let l = c .before .before .before .loop in
-    let size = lent (l .room) (l .i) (l .i + width) (omega arith) (omega (arith, l .inv .1 .filled .long)) in
+    let size = part-length (l .room) (l .i) (l .i + width) (omega arith) (omega (arith, l .inv .1 .filled .long)) in
     (record { shaped = c .before .before .before .before .before .before .pre .0; fits = omega arith; held = omega arith }, omega (arith, size))
 
 joined-requires : tie.Need-joined-requires Inv-loop μ-loop
@@ -63,7 +63,7 @@ loop-again : tie.Need-loop-again Inv-loop μ-loop
 loop-again c =
     let a = c .before .before .before .before .before .before .before .before .before .before .args in
     let l = c .before .before .before .before .before .before .before .loop in
-    let size : length (take (l .i + width - l .i) (drop (l .i) (l .room))) ≡ width = lent (l .room) (l .i) (l .i + width) (omega arith) (omega (arith, l .inv .1 .filled .long)) ∙ omega arith in
+    let size : length (take (l .i + width - l .i) (drop (l .i) (l .room))) ≡ width = part-length (l .room) (l .i) (l .i + width) (omega arith) (omega (arith, l .inv .1 .filled .long)) ∙ omega arith in
     (omega arith, summary-filled-part width (l .inv .1) (omega arith) (summary-as (ap (λ (k : ℕ). tabulate k (λ j. verdict (a .g .n) (column (a .g) (a .stripe .now) (l .i + j)))) size) (c .before .before .before .check-chunk .ensures)) (post-is (l .i) (l .i + width) (l .room) (omega arith)) (c .joined .ensures))
 
 mul-check-part : tie.Need-mul-check-part Inv-loop μ-loop
@@ -81,7 +81,7 @@ part-check-part-end c = search needs
 check-part-requires : tie.Need-check-part-requires Inv-loop μ-loop
 check-part-requires c κs =
     let l = c .before .before .before .before .before .loop in
-    let size = lent (l .room) (l .i) (length (l .room)) (omega (arith, l .inv .1 .filled .long)) (omega arith) in
+    let size = part-length (l .room) (l .i) (length (l .room)) (omega (arith, l .inv .1 .filled .long)) (omega arith) in
     record { shaped = c .before .before .before .before .before .before .before .before .pre .0; fits = omega (arith, size, l .inv .1 .filled .long); held = omega (arith, size, l .inv .1 .filled .long) }
 
 joined-requires-2 : tie.Need-joined-requires-2 Inv-loop μ-loop
@@ -93,7 +93,7 @@ all c =
     let a = c .before .before .before .before .before .before .before .before .before .before .before .before .args in
     let l = c .before .before .before .before .before .before .before .before .before .loop in
     let whole : length (l .room) ≡ l .i + (a .g .b - l .i) = omega (arith, l .inv .1 .filled .long) in
-    let size : length (take (length (l .room) - l .i) (drop (l .i) (l .room))) ≡ a .g .b - l .i = lent (l .room) (l .i) (length (l .room)) (omega arith) (omega arith) ∙ omega arith in
+    let size : length (take (length (l .room) - l .i) (drop (l .i) (l .room))) ≡ a .g .b - l .i = part-length (l .room) (l .i) (length (l .room)) (omega arith) (omega arith) ∙ omega arith in
     summary-filled-part (a .g .b - l .i) (l .inv .1) (omega arith) (summary-as (ap (λ (k : ℕ). tabulate k (λ j. verdict (a .g .n) (column (a .g) (a .stripe .now) (l .i + j)))) size) (c .before .before .before .check-part .ensures)) (post-is (l .i) (length (l .room)) (l .room) (omega arith) ∙ ap (λ (k : ℕ). drop k (l .room)) whole) (c .joined2 .ensures)
 
 same-length : tie.Need-same-length Inv-loop μ-loop

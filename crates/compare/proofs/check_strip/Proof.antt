@@ -8,6 +8,7 @@ use native.Mathlib.Omega.{arith}
 use borrow.Rule.Slice.PartMut.{putMid, post-is}
 use lib.ListN.{length, getD, take, drop}
 use Rattle.base.specs.Table.{tabulate}
+use Rattle.base.proofs.Tails.{part-length}
 use Rattle.base.proofs.Table.{tabulate-same}
 use Rattle.chunk.specs.Chunk.{width}
 use Rattle.column.specs.Column.{verdict, verdictOf, syndromeP, syndromeQ, reedSolomon}
@@ -16,7 +17,6 @@ use Rattle.shape.specs.Layout.{column}
 use Rattle.sums.specs.Strip.{strip}
 use Rattle.sums.proofs.Strips.{strip-length, chunk-seen}
 use Rattle.verdict.proofs.Summary.{FilledWithSummary, summary-filled-none, summary-filled-part, summary-filled-all, summary-as}
-use Rattle.compare.proofs.Lent.{lent}
 use Rattle.compare.proofs.check_strip.Statement.{statement}
 use Rattle.compare.proofs.check_strip.Tie as tie
 
@@ -116,7 +116,7 @@ loop-again c =
     let k = width * l .m in
     let fits : k + width ≤ strip = omega (arith, c .before .before .before .before .before .before .before .before .before .before .before .before .before .loop-test) in
     let next : k + width ≡ width * (l .m + 1) = omega arith in
-    let size : length (take (k + width - k) (drop k (l .room))) ≡ width = lent (l .room) k (k + width) (omega arith) (omega (arith, fits, l .inv .1 .filled .long)) ∙ omega arith in
+    let size : length (take (k + width - k) (drop k (l .room))) ≡ width = part-length (l .room) k (k + width) (omega arith) (omega (arith, fits, l .inv .1 .filled .long)) ∙ omega arith in
     let sums = c .before .before .before .before .before .before .before .before .before .before .before .before .before .before .before .strip-survivors .ensures in
     let of-p = chunk-seen (here .pre .0) k fits (n + 2) (n + 2) (syndromeP n) _ (sums .first) (c .before .before .before .before .before .before .before .before .before .before .load .ensures) in
     let of-q = chunk-seen (here .pre .0) k fits (n + 2) (n + 2) (syndromeQ reedSolomon n) _ (sums .second) (c .before .before .before .before .before .before .before .load2 .ensures) in

@@ -8,11 +8,11 @@ use native.Mathlib.Omega.{arith}
 use borrow.Rule.Slice.PartMut.{post-is}
 use lib.ListN.{length, take, drop}
 use Rattle.base.specs.Table.{tabulate}
+use Rattle.base.proofs.Tails.{part-length}
 use Rattle.column.specs.Column.{verdict}
 use Rattle.shape.specs.Layout.{column}
 use Rattle.sums.specs.Strip.{strip}
 use Rattle.verdict.proofs.Summary.{FilledWithSummary, summary-filled-none, summary-filled-over, summary-filled-all, summary-as}
-use Rattle.compare.proofs.Lent.{lent}
 use Rattle.compare.proofs.check_strips.Statement.{statement}
 use Rattle.compare.proofs.check_strips.Tie as tie
 
@@ -53,7 +53,7 @@ check-strip-requires c κs =
     let next = begins (c .before) in
     let i = c .before .next-start .result in
     let l = c .before .before .before .before .loop in
-    let size = lent (l .room) i (i + strip) (omega arith) (omega (arith, next, l .inv .1 .filled .long)) in
+    let size = part-length (l .room) i (i + strip) (omega arith) (omega (arith, next, l .inv .1 .filled .long)) in
     (record { shaped = c .before .before .before .before .before .before .before .pre .0; fits = next .2 }, omega (arith, size))
 
 joined-requires : tie.Need-joined-requires Inv-loop μ-loop
@@ -71,7 +71,7 @@ loop-again c =
     let l = c .before .before .before .before .before .before .before .before .loop in
     let i = c .before .before .before .before .before .next-start .result in
     let next = begins (c .before .before .before .before .before) in
-    let size : length (take (i + strip - i) (drop i (l .room))) ≡ strip = lent (l .room) i (i + strip) (omega arith) (omega (arith, next, l .inv .1 .filled .long)) ∙ omega arith in
+    let size : length (take (i + strip - i) (drop i (l .room))) ≡ strip = part-length (l .room) i (i + strip) (omega arith) (omega (arith, next, l .inv .1 .filled .long)) ∙ omega arith in
     (next .2, summary-filled-over i strip (l .inv .1) (next .0) (next .1) (next .2) (summary-as (ap (λ (k : ℕ). tabulate k (λ j. verdict (a .g .n) (column (a .g) (a .stripe .now) (i + j)))) size) (c .before .before .before .check-strip .ensures)) (post-is i (i + strip) (l .room) (omega arith)) (c .joined .ensures))
 
 same-length : tie.Need-same-length Inv-loop μ-loop

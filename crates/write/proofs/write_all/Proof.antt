@@ -1,17 +1,17 @@
 -- `write::write_all` meets its contract. The loop's invariant: the j columns from the offset on are written. The measure is what is left.
 -- Assumes nothing.
 use borrow.Author.Needs.{needs}
-use mathlib.Core.Path.{_≡_, refl, ap, _∙_}
-use mathlib.Core.List.{List}
-use Prim.Native.Nat.{ℕ, _+_, _-_, _≤_}
+use mathlib.Core.Path.{_≡_, _∙_}
+use Prim.Native.Nat.{_+_, _-_, _≤_}
 use native.Mathlib.Omega.{arith}
-use lib.ListN.{length, getD, take, drop}
+use lib.ListN.{length, getD}
 use Rattle.gf256.specs.Field.{power}
 use Rattle.chunk.specs.Chunk.{width}
 use Rattle.column.specs.Column.{reedSolomon, writeColumn}
 use Rattle.shape.specs.Columns.{ColumnsMapped}
 use Rattle.shape.proofs.Columns.{shaped-same, columns-none, columns-count}
-use Rattle.write.proofs.Written.{lent-long, written-more}
+use Rattle.base.proofs.Tails.{part-length}
+use Rattle.write.proofs.Written.{written-more}
 use Rattle.write.proofs.write_all.Statement.{statement}
 use Rattle.write.proofs.write_all.Tie as tie
 
@@ -51,7 +51,7 @@ write-chunk-requires c κs =
     let here = c .before .before .before .before .before .before .before in
     let a = here .args in
     let l = c .before .before .before .loop in
-    let size = lent-long (a .new .now) (l .j) (l .j + width) (omega arith) (omega arith) in
+    let size = part-length (a .new .now) (l .j) (l .j + width) (omega arith) (omega arith) in
     (record { shaped = shaped-same (here .pre .0) (l .inv .2 .kept); fits = omega (arith, size, here .pre .1); held = omega (arith, size) }, here .pre .2, l .inv .1, omega (arith, size))
 
 add-j : tie.Need-add-j Inv-loop μ-loop
@@ -84,7 +84,7 @@ write-part-requires c κs =
     let here = c .before .before .before .before .before .before .before .before in
     let a = here .args in
     let l = c .before .before .before .before .loop in
-    let size = lent-long (a .new .now) (l .j) (length (a .new .now)) (omega arith) (omega arith) in
+    let size = part-length (a .new .now) (l .j) (length (a .new .now)) (omega arith) (omega arith) in
     (record { shaped = shaped-same (here .pre .0) (l .inv .2 .kept); fits = omega (arith, size, here .pre .1); held = omega (arith, size) }, here .pre .2, l .inv .1)
 
 same-length : tie.Need-same-length Inv-loop μ-loop

@@ -1,0 +1,55 @@
+-- The disks of a group in three runs: above the higher of two lost ones, between both and below, each lost one as 00.
+-- Assumes nothing.
+use mathlib.Core.Path.{_≡_, ap, _∙_}
+use mathlib.Core.Logic.{_⊎_, inr, ⊎-elim}
+use mathlib.Core.List.{List}
+use Prim.Native.Nat.{ℕ, _+_, _≤_, _<_}
+use native.Mathlib.Omega.{arith}
+use Rattle.chunk.specs.Chunk.{width}
+use Rattle.column.specs.Column.{Column}
+use Rattle.losses.specs.Losses.{without}
+use Rattle.losses.proofs.Without.{without-other, without-lost}
+use Rattle.shape.specs.declared.Geometry.{Geometry}
+use Rattle.shape.specs.Layout.{column}
+use Rattle.stretch.specs.Stretch.{Has, columnOf}
+use Rattle.stretch.proofs.Laws.{column-of}
+use Rattle.sums.specs.Sums.{Tails, DisksAdded, AddedAbove}
+use Rattle.sums.specs.Strip.{AddedWithin}
+
+-- among all disks a lost one lies above none
+pub within-all : {g : Geometry} {i lost to : ℕ} {s p q : List ℕ} {r : ℕ} {p′ q′ : List ℕ} → AddedAbove g i lost to s p q r p′ q′ → AddedWithin g i lost 0 to s p q r p′ q′
+within-all above =
+    record {
+      below = inr (above .below);
+      within = above .within;
+      above = omega arith;
+      sums = λ f agrees zero tails. above .sums f (λ j k l from to. agrees j k l (omega arith) (omega arith) to) zero tails;
+    }
+
+-- the lower and the higher of x and y
+abbrev Lower : ℕ → ℕ → ℕ → Type 0
+Lower x y low = (low ≤ x) × (low ≤ y) × ((low ≡ x) ⊎ (low ≡ y))
+
+abbrev Higher : ℕ → ℕ → ℕ → Type 0
+Higher x y high = (x ≤ high) × (y ≤ high) × ((high ≡ x) ⊎ (high ≡ y))
+
+neither : {x y low high k : ℕ} → Lower x y low → Higher x y high → (k ≡ low → ⊥) → (k ≡ high → ⊥) → (k ≡ x → ⊥) × (k ≡ y → ⊥)
+neither l h not-low not-high = (
+  λ e. ⊎-elim (λ p. not-low (omega arith)) (λ p. ⊎-elim (λ q. not-high (omega arith)) (λ q. not-low (omega arith)) (h .2)) (l .2),
+  λ e. ⊎-elim (λ p. ⊎-elim (λ q. not-low (omega arith)) (λ q. not-high (omega arith)) (h .2)) (λ p. not-low (omega arith)) (l .2),
+)
+
+pub runs-added : {g : Geometry} {s : List ℕ} {i : ℕ} (x y : ℕ) {low high from to k m : ℕ} {p q p₁ q₁ p₂ q₂ p₃ q₃ : List ℕ} → Has g s i width → Lower x y low → Higher x y high
+    → AddedWithin g i high from to s p q k p₁ q₁
+    → AddedWithin g i low from k s p₁ q₁ m p₂ q₂
+    → DisksAdded g i from m s p₂ q₂ p₃ q₃
+    → Tails (g .n) to (λ j. without x y (columnOf g s i width j)) p q
+    → Tails (g .n) from (λ j. without x y (columnOf g s i width j)) p₃ q₃
+runs-added {g} {s} {i} x y {low} {high} h lower higher above between below tails =
+    let e = columnOf g s i width in
+    let f : ℕ → Column = λ j. without x y (e j) in
+    let other : (j k : ℕ) → j < width → (k ≡ low → ⊥) → (k ≡ high → ⊥) → f j k ≡ column g s (i + j) k = λ j k l not-low not-high. let kept = neither lower higher not-low not-high in without-other x y (e j) k (kept .0) (kept .1) ∙ ap (λ (r : Column). r k) (column-of h j l) in
+    below f
+    (λ j k l from to. other j k l (λ e. ⊎-elim (λ p. omega arith) (λ p. omega arith) (between .below)) (λ e. ⊎-elim (λ p. omega arith) (λ p. omega (arith, between .within)) (above .below)))
+    (between .sums f (λ j k l from past to. other j k l (omega arith) (λ e. ⊎-elim (λ p. omega arith) (λ p. omega arith) (above .below))) (λ j l. without-lost x y (e j) low (lower .2))
+    (above .sums f (λ j k l from past to. other j k l (omega (arith, lower, higher)) (omega arith)) (λ j l. without-lost x y (e j) high (higher .2)) tails))
