@@ -48,7 +48,7 @@ pub fn rebuild_one(column: &mut [u8], device: usize) {
     column[device] = 0;
     let known = checks(column);
     let [in_first, in_second] = coefficients(device, column.len() - 2);
-    column[device] = if in_first != 0 { known[0] } else { product(known[1], inverse(in_second)) };
+    column[device] = if in_first != 0 { known[0] } else { product(known[1], inverse(in_second).expect("every device counts in a check")) };
 }
 
 /// Replaces two symbols, by Cramer's rule on both checks.
@@ -58,7 +58,7 @@ pub fn rebuild_two(column: &mut [u8], first: usize, second: usize) {
     column[second] = 0;
     let [p, q] = checks(column);
     let ([a, c], [b, d]) = (coefficients(first, n), coefficients(second, n));
-    let scale = inverse(product(a, d) ^ product(b, c));
+    let scale = inverse(product(a, d) ^ product(b, c)).expect("two devices never count alike");
     column[first] = product(scale, product(p, d) ^ product(b, q));
     column[second] = product(scale, product(a, q) ^ product(p, c));
 }
@@ -93,7 +93,8 @@ pub fn verdict(column: &[u8]) -> u16 {
         [_, 0] => 1,
         [0, _] => 2,
         [p, q] => {
-            let z = logarithm(product(q, inverse(p)));
+            let ratio = product(q, inverse(p).expect("P* is not 00 here"));
+            let z = logarithm(ratio).expect("neither P* nor Q* is 00 here");
             if usize::from(z) < column.len() - 2 {
                 16 + u16::from(z)
             } else {
@@ -158,7 +159,7 @@ mod tests {
             let [p, q] = checks(&zeroed);
             // equations 17 to 20, with p = P + Pxy and q = Q + Qxy
             let ratio = power(2, (y - x) as u64);
-            let scale = inverse(ratio ^ 1);
+            let scale = inverse(ratio ^ 1).expect("02^(y - x) is not 01");
             let (a, b) = (product(ratio, scale), product(power(2, 255 - x as u64), scale));
             let dx = product(a, p) ^ product(b, q);
             assert_eq!([dx, p ^ dx], [column[x], column[y]]);

@@ -34,21 +34,21 @@ pub fn power(x: u8, exponent: u64) -> u8 {
     answer
 }
 
-/// The only y with x * y = 01, by trial; 00 for 00, which has none.
-pub fn inverse(x: u8) -> u8 {
-    (0..=255).find(|&y| product(x, y) == 1).unwrap_or(0)
+/// The only y with x * y = 01, by trial; 00 has none.
+pub fn inverse(x: u8) -> Option<u8> {
+    (0..=255).find(|&y| product(x, y) == 1)
 }
 
-/// The exponent of 02 that gives x, by trial; 255 for 00, which has none.
-pub fn logarithm(x: u8) -> u8 {
+/// The exponent of 02 below 255 that gives x, by trial; 00 has none.
+pub fn logarithm(x: u8) -> Option<u8> {
     let mut candidate = 1;
     for exponent in 0..255 {
         if candidate == x {
-            return exponent;
+            return Some(exponent);
         }
         candidate = double(candidate);
     }
-    255
+    None
 }
 
 #[cfg(test)]
@@ -61,14 +61,17 @@ mod tests {
         assert_eq!(product(0x8d, 0x02), 0x07);
         assert_eq!(power(0x02, 8), 0x1d);
         assert_eq!(power(0x02, 12), 0xcd);
-        assert_eq!(inverse(0x02), 0x8e);
-        assert_eq!(logarithm(0x10), 4);
+        assert_eq!(inverse(0x02), Some(0x8e));
+        assert_eq!(logarithm(0x10), Some(4));
     }
 
     #[test]
     fn house_rules() {
-        assert_eq!(inverse(0), 0);
-        assert_eq!(logarithm(0), 255);
+        assert_eq!(inverse(0), None);
+        assert_eq!(logarithm(0), None);
+        for x in 1..=255 {
+            assert!(inverse(x).is_some() && logarithm(x).is_some(), "{x:02x}");
+        }
         assert_eq!(power(0, 0), 1);
     }
 

@@ -2,17 +2,15 @@
 -- is 0 exactly where both equations hold. The four rows of the paper's table, and equations 24 to 27.
 -- Assumes nothing.
 use mathlib.Core.Path.{_≡_, refl, sym, ap, ap₂, _∙_}
-use mathlib.Core.Logic.{_≢_, _↔_}
-use mathlib.Core.Bool.{Bool, true, false}
-use Prim.Native.Nat.{ℕ, _+_, _≤_, _<_}
-use native.Mathlib.Nat.{suc-ne-zero}
+use mathlib.Core.Logic.{_≢_, _↔_, _⊎_, inl, inr}
+use Prim.Native.Nat.{ℕ, zero, suc, _+_, _≤_, _<_}
+use native.Mathlib.Nat.{suc-ne-zero, le-refl}
 use native.Mathlib.Omega.{arith}
 use native.Mathlib.Decide.{ℕ-discrete}
-use borrow.Author.Tests.{ne-eqb, lt-ltb}
-use lib.Dec.{ltb}
-use Rattle.gf256.specs.Field.{sum, product, power, inverse, logarithm}
-use Rattle.gf256.proofs.Laws.{sum-self, sum-exchange, sum-only-zero, zero-sum, xor-lt, product-right, product-comm, product-assoc, product-one, product-inverse, product-nonzero, power-lt, power-of-two-nonzero, logarithm-power-of-two}
-use Rattle.base.specs.Choice.{choose}
+use Rattle.gf256.specs.declared.Logarithm.{Logarithm}
+use Rattle.gf256.specs.declared.Logarithm.the-variants.{Is as LogarithmIs, None as NoLogarithm}
+use Rattle.gf256.specs.Field.{sum, product, power, reciprocal, quotient, firstExponent, logarithm}
+use Rattle.gf256.proofs.Laws.{sum-self, sum-exchange, sum-only-zero, zero-sum, xor-lt, product-right, product-comm, product-assoc, product-one, product-inverse, product-nonzero, power-lt, power-of-two-nonzero, found-below, exponent-within, logarithm-power-of-two}
 use Rattle.column.specs.Column.{Column, put, parityP, parityQ, syndromeP, syndromeQ, Encoded, reedSolomon, verdictOf, verdict, located}
 use Rattle.column.proofs.Total.{total-same}
 use Rattle.column.proofs.Put.{put-same, put-other, put-back}
@@ -22,28 +20,29 @@ use Rattle.column.specs.Lawful.{Symbols}
 use Rattle.column.proofs.Series.{encoded-zero, zero-encoded}
 
 -- ---- the rows of the table
-row-clean : (n : ℕ) → verdictOf n 0 0 ≡ 0
+pub row-clean : (n : ℕ) → verdictOf n 0 0 ≡ 0
 unfolding verdictOf
 row-clean n = refl
 
-row-p : (n p : ℕ) → p ≢ 0 → verdictOf n p 0 ≡ 1
+pub row-p : (n p : ℕ) → p ≢ 0 → verdictOf n p 0 ≡ 1
 unfolding verdictOf
-row-p n p h = rw (ne-eqb p 0 h)
+row-p n zero h = absurd (h refl)
+row-p n (suc p) h = refl
 
-row-q : (n q : ℕ) → q ≢ 0 → verdictOf n 0 q ≡ 2
+pub row-q : (n q : ℕ) → q ≢ 0 → verdictOf n 0 q ≡ 2
 unfolding verdictOf
-row-q n q h = rw (ne-eqb q 0 h)
+row-q n zero h = absurd (h refl)
+row-q n (suc q) h = refl
 
-row-both : (n p q : ℕ) → p ≢ 0 → q ≢ 0 → verdictOf n p q ≡ located n (logarithm (product q (inverse p)))
+pub row-both : (n p q : ℕ) (hp : p ≢ 0) → q ≢ 0 → verdictOf n p q ≡ located (firstExponent (quotient q p hp) 0 n)
 unfolding verdictOf
-row-both n p q hp hq = rw (ne-eqb p 0 hp, ne-eqb q 0 hq)
+row-both n zero q hp hq = absurd (hp refl)
+row-both n (suc p) zero hp hq = absurd (hq refl)
+row-both n (suc p) (suc q) hp hq = refl
 
-located-nonzero : (n z : ℕ) → located n z ≢ 0
-located-nonzero n z = go (ltb z n)
-  where
-    go : (b : Bool) → choose b (16 + z) 3 ≢ 0
-    go true e = absurd (omega arith)
-    go false e = suc-ne-zero 2 e
+located-nonzero : (l : Logarithm) → located l ≢ 0
+located-nonzero (LogarithmIs z) e = absurd (omega arith)
+located-nonzero NoLogarithm e = suc-ne-zero 2 e
 
 -- a verdict of 0 is the first row's
 clean-only : (n p q : ℕ) → verdictOf n p q ≡ 0 → (p ≡ 0) × (q ≡ 0)
@@ -53,7 +52,7 @@ clean-only n p q e = go (ℕ-discrete p 0) (ℕ-discrete q 0)
     go (yes a) (yes b) = (a, b)
     go (yes a) (no b) = absurd (suc-ne-zero 1 (sym (row-q n q b) ∙ ap (λ (x : ℕ). verdictOf n x q) (sym a) ∙ e))
     go (no a) (yes b) = absurd (suc-ne-zero 0 (sym (row-p n p a) ∙ ap (verdictOf n p) (sym b) ∙ e))
-    go (no a) (no b) = absurd (located-nonzero n (logarithm (product q (inverse p))) (sym (row-both n p q a b) ∙ e))
+    go (no a) (no b) = absurd (located-nonzero (firstExponent (quotient q p a) 0 n) (sym (row-both n p q a b) ∙ e))
 
 module _ (n : ℕ) (few : n ≤ 255) (c : Column) where
   -- the verdict is 0 exactly where both equations hold
@@ -123,7 +122,7 @@ module _ (n : ℕ) (few : n ≤ 255) (c : Column) where
         p-byte : P* < 256
         p-byte = rw equation24 (xor-lt 8 (c z) v (symbols z) byte)
 
-        p-nonzero : P* ≢ 0
+        pub p-nonzero : P* ≢ 0
         p-nonzero e = changed (sym (sum-only-zero (c z) v (sym equation24 ∙ e)))
 
         q-nonzero : Q* ≢ 0
@@ -131,26 +130,51 @@ module _ (n : ℕ) (few : n ≤ 255) (c : Column) where
             product-nonzero (power 2 z) P* (power-lt 2 z) p-byte (power-of-two-nonzero z) p-nonzero (sym equation25 ∙ e)
 
         -- Q*/P* = g^z
-        pub equation26 : product Q* (inverse P*) ≡ power 2 z
+        pub equation26 : quotient Q* P* p-nonzero ≡ power 2 z
         equation26 =
-            ap (λ (q : ℕ). product q (inverse P*)) equation25
-            ∙ product-assoc (power 2 z) P* (inverse P*)
+            ap (λ (q : ℕ). quotient q P* p-nonzero) equation25
+            ∙ product-assoc (power 2 z) P* (reciprocal P* p-nonzero)
             ∙ ap (product (power 2 z)) (product-inverse P* p-byte p-nonzero)
             ∙ product-comm (power 2 z) 1
             ∙ product-one (power 2 z) (power-lt 2 z)
 
         -- z = log(Q*/P*)
-        pub equation27 : logarithm (product Q* (inverse P*)) ≡ z
+        pub equation27 : logarithm (quotient Q* P* p-nonzero) ≡ LogarithmIs z
         equation27 = ap logarithm equation26 ∙ logarithm-power-of-two z (omega arith)
 
         pub verdict-data : verdict n (put z v c) ≡ 16 + z
         verdict-data =
-            row-both n P* Q* p-nonzero q-nonzero
-            ∙ ap (located n) equation27
-            ∙ ap (λ (b : Bool). choose b (16 + z) 3) (lt-ltb z n hz)
+            row-both n P* Q* p-nonzero q-nonzero ∙ ap located (exponent-within (record { below = omega arith; is = sym equation26 }) hz)
 
 -- the verdict depends on the column alone
 pub verdict-local : (n : ℕ) (c e : Column) → ((r : ℕ) → r < n + 2 → c r ≡ e r) → verdict n c ≡ verdict n e
 verdict-local n c e same =
     ap₂ (verdictOf n) (ap₂ sum (same n (omega arith)) (total-same n (λ k p. same k (omega arith))))
     (ap₂ sum (same (n + 1) (omega arith)) (total-same n (λ k p. ap (reedSolomon .act k) (same k (omega arith)))))
+
+-- a verdict is one of the four small ones, or names a data disk that the stripe has
+pub verdict-known : (n : ℕ) (c : Column) → (verdict n c ≤ 3) ⊎ ((16 ≤ verdict n c) × (verdict n c < 16 + n))
+unfolding verdictOf
+verdict-known n c = rows (syndromeP n c) (syndromeQ reedSolomon n c)
+  where
+    last : (l : Logarithm) → ((z : ℕ) → l ≡ LogarithmIs z → z < n) → (located l ≤ 3) ⊎ ((16 ≤ located l) × (located l < 16 + n))
+    last (LogarithmIs z) below = inr (omega arith, omega (arith, below z refl))
+    last NoLogarithm below = inl (le-refl 3)
+
+    rows : (p q : ℕ) → (verdictOf n p q ≤ 3) ⊎ ((16 ≤ verdictOf n p q) × (verdictOf n p q < 16 + n))
+    rows zero zero = inl (omega arith)
+    rows (suc p) zero = inl (omega arith)
+    rows zero (suc q) = inl (omega arith)
+    rows (suc p) (suc q) =
+        let v = quotient (suc q) (suc p) (suc-ne-zero p) in last (firstExponent v 0 n) (λ z is. omega (arith, found-below v n 0 is))
+
+-- P* and Q* are both other than 00 where the check divides: 0, 1 and 2 are told without
+pub divides-nonzero : (n : ℕ) (c : Column) → 3 ≤ verdict n c → (syndromeP n c ≢ 0) × (syndromeQ reedSolomon n c ≢ 0)
+unfolding verdictOf
+divides-nonzero n c = rows (syndromeP n c) (syndromeQ reedSolomon n c)
+  where
+    rows : (p q : ℕ) → 3 ≤ verdictOf n p q → (p ≢ 0) × (q ≢ 0)
+    rows zero zero h = absurd (omega arith)
+    rows (suc p) zero h = absurd (omega arith)
+    rows zero (suc q) h = absurd (omega arith)
+    rows (suc p) (suc q) h = (suc-ne-zero p, suc-ne-zero q)

@@ -2,8 +2,12 @@
 -- Equations are numbered as in the paper.
 use Prim.Native.Nat.{ℕ, zero, suc, _+_}
 use mathlib.Core.Path.{_≡_}
-use lib.Dec.{eqb, ltb}
-use Rattle.gf256.specs.Field.{sum, product, power, inverse, logarithm}
+use native.Mathlib.Nat.{suc-ne-zero}
+use lib.Dec.{eqb}
+use Rattle.gf256.specs.declared.Logarithm.{Logarithm}
+use Rattle.gf256.specs.declared.Logarithm.the-variants.{Is as LogarithmIs, None as NoLogarithm}
+use Rattle.gf256.specs.Field.{sum, product, power, reciprocal, quotient, firstExponent}
+use Rattle.gf256.proofs.Laws.{power-of-two-nonzero}
 use Rattle.column.specs.declared.Device.{Device}
 use Rattle.column.specs.declared.Device.the-variants.{Data, P, Q}
 use Rattle.column.specs.declared.Lost.{Lost}
@@ -42,24 +46,35 @@ pub record Code : Type 0 where
   pub undo : ℕ → ℕ → ℕ
   pub split : ℕ → ℕ → ℕ → ℕ → ℕ
 
--- The Reed-Solomon code of the paper. 02^y / 02^x is the paper's g^(y-x).
+-- The Reed-Solomon code of the paper. A power of 02 is never 00 (`power-of-two-nonzero`), so that 02^-x is there for every disk x, and
+-- 02^y / 02^x, the paper's g^(y-x).
+abbrev pub overPower : ℕ → ℕ
+overPower x = reciprocal (power 2 x) (power-of-two-nonzero x)
+
 abbrev pub ratio : ℕ → ℕ → ℕ
-ratio y x = product (power 2 y) (inverse (power 2 x))
+ratio y x = product (power 2 y) (overPower x)
 
--- equations 17 and 18
-abbrev pub coefficientA : ℕ → ℕ → ℕ
-coefficientA x y = product (ratio y x) (inverse (sum (ratio y x) 1))
+-- What equations 17 and 18 divide by: g^(y-x) + 01. It is not 00 for two different disks below 255 (`divisor-nonzero`).
+abbrev pub divisor : ℕ → ℕ → ℕ
+divisor x y = sum (ratio y x) 1
 
-abbrev pub coefficientB : ℕ → ℕ → ℕ
-coefficientB x y = product (inverse (power 2 x)) (inverse (sum (ratio y x) 1))
+-- A and B of equations 17 and 18, from what they divide by. Where that is 00 nothing is divided: x and y are one disk, modulo 255, and with
+-- 01 and 00 equation 19 gives it what equation 1 does (`split-same`).
+abbrev pub coefficientsBy : ℕ → ℕ → ℕ → TwoBytes
+coefficientsBy x y zero = record { first = 1; second = 0 }
+coefficientsBy x y (suc d) =
+    record { first = quotient (ratio y x) (suc d) (suc-ne-zero d); second = quotient (overPower x) (suc d) (suc-ne-zero d) }
+
+unfoldable pub coefficients : ℕ → ℕ → TwoBytes
+coefficients x y = coefficientsBy x y (divisor x y)
 
 -- equations 2, 5 and 19
 unfoldable pub reedSolomon : Code
 reedSolomon =
     record {
       act = λ k d. product (power 2 k) d;
-      undo = λ k q. product (inverse (power 2 k)) q;
-      split = λ x y p q. sum (product (coefficientA x y) p) (product (coefficientB x y) q);
+      undo = λ k q. product (overPower k) q;
+      split = λ x y p q. sum (product (coefficients x y .first) p) (product (coefficients x y .second) q);
     }
 
 -- the right side of equation 1
@@ -146,14 +161,17 @@ module _ (code : Code) where
   abbrev pub syndromeQ : ℕ → Column → ℕ
   syndromeQ n c = sum (c (n + 1)) (parityQ n c)
 
--- The verdict on a column, from P* and Q*: 0 clean, 1 for P, 2 for Q, 16 + z for data disk z (equation 27), 3 where z is beyond
--- the last disk.
-abbrev pub located : ℕ → ℕ → ℕ
-located n z = choose (ltb z n) (16 + z) 3
+-- The verdict on a column, from P* and Q*: 0 clean, 1 for P, 2 for Q; where neither is 00, 16 + z for the data disk z with g^z = Q*/P*
+-- (equation 26), and 3 where no data disk has it. So z is the logarithm of Q*/P* (equation 27).
+abbrev pub located : Logarithm → ℕ
+located (LogarithmIs z) = 16 + z
+located NoLogarithm = 3
 
 unfoldable pub verdictOf : ℕ → ℕ → ℕ → ℕ
-verdictOf n p q =
-    choose (eqb p 0) (choose (eqb q 0) 0 2) (choose (eqb q 0) 1 (located n (logarithm (product q (inverse p)))))
+verdictOf n zero zero = 0
+verdictOf n (suc p) zero = 1
+verdictOf n zero (suc q) = 2
+verdictOf n (suc p) (suc q) = located (firstExponent (quotient (suc q) (suc p) (suc-ne-zero p)) 0 n)
 
 abbrev pub verdict : ℕ → Column → ℕ
 verdict n c = verdictOf n (syndromeP n c) (syndromeQ reedSolomon n c)

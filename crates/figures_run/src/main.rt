@@ -5,6 +5,8 @@ use column::Device;
 use column::Lost;
 use findings::Finding;
 use gf256::Element;
+use gf256::Inverse;
+use gf256::Logarithm;
 use header::LIMIT;
 use shape::Geometry;
 use stripe::Checked;
@@ -33,7 +35,10 @@ fn field() {
         byte(Element(0x8d).product(Element(0x02))),
     );
     row(b"02 to the power 12", b"cd", byte(Element(0x02).power(12)));
-    row(b"inverse of 02", b"8e", byte(Element(0x02).inverse()));
+    row(b"inverse of 02", b"8e", inverse(Element(0x02)));
+    row(b"inverse of 00", b"none", inverse(Element(0x00)));
+    row(b"logarithm of 10", b"4", logarithm(Element(0x10)));
+    row(b"logarithm of 00", b"none", logarithm(Element(0x00)));
 }
 
 fn encoding() {
@@ -142,6 +147,20 @@ fn answering() {
 }
 
 // ---- the cases
+
+fn inverse(x: Element) -> [u8; 17] {
+    match x.inverse() {
+        Inverse::Is(y) => byte(y),
+        Inverse::None => *b"none             ",
+    }
+}
+
+fn logarithm(x: Element) -> [u8; 17] {
+    match x.logarithm() {
+        Logarithm::Is(e) => exponent(e as usize),
+        Logarithm::None => *b"none             ",
+    }
+}
 
 // P and Q of a stripe with blocks of one byte, or the refusal.
 fn encoded(s: &mut [u8]) -> [u8; 17]
@@ -271,6 +290,17 @@ fn first_set() -> [[u8; 8]; 8] {
 
 fn byte(x: Element) -> [u8; 17] {
     with_byte(*b"..               ", 0, x.0)
+}
+
+fn exponent(e: usize) -> [u8; 17] {
+    if e < 10 {
+        return with_digit(*b".                ", 0, e);
+    }
+    with_digit(
+        with_digit(with_digit(*b"...              ", 0, e / 100), 1, e / 10),
+        2,
+        e,
+    )
 }
 
 fn parities(p: u8, q: u8) -> [u8; 17] {

@@ -201,6 +201,9 @@ product-one = agree (product 1) (λ x. x) (product-right 1) (λ x y. refl) 8 (sa
 pub product-zero : (x : ℕ) → product x 0 ≡ 0
 product-zero x = additive-zero (product x) (product-right x)
 
+pub zero-product : (x : ℕ) → product 0 x ≡ 0
+zero-product x = product-comm 0 x ∙ product-zero x
+
 -- ---- times 02 is the product with 02, and the shift, computed at every byte
 double-tested : T (same 256 double (product 2))
 unfolding double product carryless remainder

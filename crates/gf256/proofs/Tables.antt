@@ -1,9 +1,9 @@
 -- The rules of the two tables, each computed once over all of its entries: a power is 02 times the one before it, and after the last
--- comes the first again; the logarithm undoes the power, and the power the logarithm.
+-- comes the first again, and none is 00; the logarithm undoes the power, and the power the logarithm.
 -- Assumes nothing.
 use mathlib.Core.Path.{_≡_, refl}
 use mathlib.Core.List.{List, [], _∷_}
-use Prim.Native.Nat.{ℕ, suc, _+_, _%_, _<_}
+use Prim.Native.Nat.{ℕ, suc, _+_, _-_, _%_, _<_}
 use lib.Dec.{T, ltb, ltb→lt}
 use lib.ListN.{getD}
 use Rattle.gf256.specs.Field.{double}
@@ -26,7 +26,7 @@ powers =
 
 unfoldable pub logarithms : List ℕ
 logarithms =
-    255 ∷ 0 ∷ 1 ∷ 25 ∷ 2 ∷ 50 ∷ 26 ∷ 198 ∷ 3 ∷ 223 ∷ 51 ∷ 238 ∷ 27 ∷ 104 ∷ 199 ∷ 75 ∷ 4 ∷ 100 ∷ 224 ∷ 14 ∷ 52 ∷ 141 ∷ 239 ∷ 129 ∷
+    0 ∷ 1 ∷ 25 ∷ 2 ∷ 50 ∷ 26 ∷ 198 ∷ 3 ∷ 223 ∷ 51 ∷ 238 ∷ 27 ∷ 104 ∷ 199 ∷ 75 ∷ 4 ∷ 100 ∷ 224 ∷ 14 ∷ 52 ∷ 141 ∷ 239 ∷ 129 ∷
     28 ∷ 193 ∷ 105 ∷ 248 ∷ 200 ∷ 8 ∷ 76 ∷ 113 ∷ 5 ∷ 138 ∷ 101 ∷ 47 ∷ 225 ∷ 36 ∷ 15 ∷ 33 ∷ 53 ∷ 147 ∷ 142 ∷ 218 ∷ 240 ∷ 18 ∷ 130 ∷
     69 ∷ 29 ∷ 181 ∷ 194 ∷ 125 ∷ 106 ∷ 39 ∷ 249 ∷ 185 ∷ 201 ∷ 154 ∷ 9 ∷ 120 ∷ 77 ∷ 228 ∷ 114 ∷ 166 ∷ 6 ∷ 191 ∷ 139 ∷ 98 ∷ 102 ∷
     221 ∷ 48 ∷ 253 ∷ 226 ∷ 152 ∷ 37 ∷ 179 ∷ 16 ∷ 145 ∷ 34 ∷ 136 ∷ 54 ∷ 208 ∷ 148 ∷ 206 ∷ 143 ∷ 150 ∷ 219 ∷ 189 ∷ 241 ∷ 210 ∷ 19 ∷
@@ -43,10 +43,6 @@ pub powers-first : getD powers 0 0 ≡ 1
 unfolding powers
 powers-first = refl
 
-pub logarithms-first : getD logarithms 0 0 ≡ 255
-unfolding logarithms
-logarithms-first = refl
-
 next-tested : T (same 255 (λ e. getD powers ((e + 1) % 255) 0) (λ e. double (getD powers e 0)))
 unfolding powers double
 next-tested = tt
@@ -54,24 +50,31 @@ next-tested = tt
 pub powers-next : (e : ℕ) → e < 255 → getD powers ((e + 1) % 255) 0 ≡ double (getD powers e 0)
 powers-next = same-at 255 (λ e. getD powers ((e + 1) % 255) 0) (λ e. double (getD powers e 0)) next-tested
 
-logarithm-tested : T (same 255 (λ e. getD logarithms (getD powers e 0) 0) (λ e. e))
+nonzero-tested : T (all 255 (λ e. ltb 0 (getD powers e 0)))
+unfolding powers
+nonzero-tested = tt
+
+pub powers-nonzero : (e : ℕ) → e < 255 → 0 < getD powers e 0
+powers-nonzero e h = ltb→lt 0 (getD powers e 0) (all-at 255 (λ e. ltb 0 (getD powers e 0)) nonzero-tested e h)
+
+-- entry x of the logarithms is that of x + 1
+logarithm-tested : T (same 255 (λ e. getD logarithms (getD powers e 0 - 1) 0) (λ e. e))
 unfolding powers logarithms
 logarithm-tested = tt
 
-pub logarithm-power : (e : ℕ) → e < 255 → getD logarithms (getD powers e 0) 0 ≡ e
-logarithm-power = same-at 255 (λ e. getD logarithms (getD powers e 0) 0) (λ e. e) logarithm-tested
+pub logarithm-power : (e : ℕ) → e < 255 → getD logarithms (getD powers e 0 - 1) 0 ≡ e
+logarithm-power = same-at 255 (λ e. getD logarithms (getD powers e 0 - 1) 0) (λ e. e) logarithm-tested
 
-power-tested : T (same 255 (λ x. getD powers (getD logarithms (suc x) 0) 0) suc)
+power-tested : T (same 255 (λ x. getD powers (getD logarithms x 0) 0) suc)
 unfolding powers logarithms
 power-tested = tt
 
-below-tested : T (all 255 (λ x. ltb (getD logarithms (suc x) 0) 255))
+pub power-logarithm : (x : ℕ) → x < 255 → getD powers (getD logarithms x 0) 0 ≡ suc x
+power-logarithm = same-at 255 (λ x. getD powers (getD logarithms x 0) 0) suc power-tested
+
+below-tested : T (all 255 (λ x. ltb (getD logarithms x 0) 255))
 unfolding logarithms
 below-tested = tt
 
--- for the nonzero elements
-pub power-logarithm : (x : ℕ) → x < 255 → getD powers (getD logarithms (suc x) 0) 0 ≡ suc x
-power-logarithm = same-at 255 (λ x. getD powers (getD logarithms (suc x) 0) 0) suc power-tested
-
-pub logarithm-below : (x : ℕ) → x < 255 → getD logarithms (suc x) 0 < 255
-logarithm-below x h = ltb→lt (getD logarithms (suc x) 0) 255 (all-at 255 (λ x. ltb (getD logarithms (suc x) 0) 255) below-tested x h)
+pub logarithm-below : (x : ℕ) → x < 255 → getD logarithms x 0 < 255
+logarithm-below x h = ltb→lt (getD logarithms x 0) 255 (all-at 255 (λ x. ltb (getD logarithms x 0) 255) below-tested x h)

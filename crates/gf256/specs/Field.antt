@@ -1,10 +1,20 @@
 -- The field GF(2^8) of the paper's section 1. An element is a byte: a polynomial over two elements whose coefficient of x^i is
--- the bit of weight 2^i. `double`, `product`, `power` and `inverse` read the low
--- eight bits of their elements alone.
-use Prim.Native.Nat.{ℕ, zero, suc, _+_, _*_, _/_, _%_, _^_}
-use mathlib.Core.Bool.{Bool, true, false}
+-- the bit of weight 2^i. `double`, `product` and `power` read the low eight bits of their elements alone.
+use Prim.Native.Nat.{ℕ, zero, suc, _+_, _*_, _/_, _%_, _^_, _<_}
+use mathlib.Core.Path.{_≡_}
+use mathlib.Core.Bool.{true, false}
+use mathlib.Core.Logic.{_≢_}
+use native.Mathlib.Nat.{suc-ne-zero}
 use lib.Bits.{bitXor, differ}
 use lib.Dec.{eqb}
+use Rattle.gf256.specs.declared.Element.{Element}
+use Rattle.gf256.specs.declared.Inverse.{Inverse}
+use Rattle.gf256.specs.declared.Inverse.the-variants.{Is as InverseIs, None as NoInverse}
+use Rattle.gf256.specs.declared.Logarithm.{Logarithm}
+use Rattle.gf256.specs.declared.Logarithm.the-variants.{Is as LogarithmIs, None as NoLogarithm}
+
+abbrev pub element : ℕ → Element
+element v = record { 0 = v }
 
 -- the coefficient of x^i
 abbrev pub bit : ℕ → ℕ → ℕ
@@ -49,15 +59,30 @@ unfoldable pub power : ℕ → ℕ → ℕ
 power x zero = 1
 power x (suc e) = product x (power x e)
 
--- The inverse is the 254th power, so that of 00 is 00.
-unfoldable pub inverse : ℕ → ℕ
-inverse x = power x 254
+-- Division. An element other than 00 times its 254th power is 01 (`product-inverse`), so that power is B^-1, and A/B is A·B^-1. The last
+-- argument says that B is not 00: without it nothing is divided.
+abbrev pub reciprocal : (b : ℕ) → b ≢ 0 → ℕ
+reciprocal b other = power b 254
 
--- the first of the k numbers from e on that passes a test, else e + k
-unfoldable pub first : (ℕ → Bool) → ℕ → ℕ → ℕ
-first test e zero = e
-first test e (suc k) = elim (test e) [ true ↦ e | false ↦ first test (suc e) k ]
+abbrev pub quotient : (a b : ℕ) → b ≢ 0 → ℕ
+quotient a b other = product a (reciprocal b other)
 
--- The logarithm to base 02: the first exponent below 255 whose power of 02 is x, else 255, which is that of 00.
-unfoldable pub logarithm : ℕ → ℕ
-logarithm x = first (λ e. eqb (power 2 e) x) 0 255
+-- The inverse that an element answers: none for 00.
+unfoldable pub inverse : ℕ → Inverse
+inverse zero = NoInverse
+inverse (suc x) = InverseIs (element (reciprocal (suc x) (suc-ne-zero x)))
+
+-- the first of the k exponents from e on whose power of 02 is x, else none
+unfoldable pub firstExponent : ℕ → ℕ → ℕ → Logarithm
+firstExponent x e zero = NoLogarithm
+firstExponent x e (suc k) = elim (eqb (power 2 e) x) [ true ↦ LogarithmIs e | false ↦ firstExponent x (suc e) k ]
+
+-- The logarithm to base 02 that an element answers: the first exponent below 255 whose power of 02 it is. No power of 02 is 00
+-- (`power-of-two-nonzero`), so none for 00.
+unfoldable pub logarithm : ℕ → Logarithm
+logarithm x = firstExponent x 0 255
+
+-- what a private function of the code finds in its table: the exponent e of the power of 02 that x is
+pub record ExponentOf (x e : ℕ) : Type 0 where
+  pub below : e < 255
+  pub is : power 2 e ≡ x

@@ -7,10 +7,23 @@ mod power_table;
 use logarithm_table::LOGARITHMS;
 use power_table::POWERS;
 ghost use mathlib.Core.Path.{_≡_};
+ghost use mathlib.Core.Logic.{_≢_};
 ghost use Prim.Native.Nat.{_<_};
-ghost use Rattle.gf256.specs.Field.{sum, double, product, power, inverse, logarithm};
+ghost use Rattle.gf256.specs.Field.{sum, double, product, power, inverse, logarithm, ExponentOf};
 
 pub struct Element(pub u8);
+
+// The inverse of an element. 00 has none.
+pub enum Inverse {
+    Is(Element),
+    None,
+}
+
+// The logarithm of an element to base 02, an exponent below 255. 00 has none.
+pub enum Logarithm {
+    Is(u64),
+    None,
+}
 
 impl Element {
     pub fn sum(self, other: Element) -> Element
@@ -27,7 +40,7 @@ impl Element {
         Element(((x % 128) * 2) ^ (x / 128 * 0x1d))
     }
 
-    // The power of 02 at the sum of the logarithms; 00 has none and is handled apart.
+    // The power of 02 at the sum of the exponents; 00 is no power and is handled apart.
     pub fn product(self, other: Element) -> Element
         ensures { λ r. ⌜ r .0 ≡ product (self .0) (other .0) ⌝ }
     {
@@ -37,7 +50,7 @@ impl Element {
         if other.0 == 0 {
             return other;
         }
-        power_of_two((self.logarithm() + other.logarithm()) % 255)
+        power_of_two((exponent_of(self) + exponent_of(other)) % 255)
     }
 
     // Exponents of a nonzero element count modulo 255.
@@ -50,25 +63,26 @@ impl Element {
         if self.0 == 0 {
             return Element(0);
         }
-        power_of_two(self.logarithm() * (exponent % 255) % 255)
+        power_of_two(exponent_of(self) * (exponent % 255) % 255)
     }
 
     // 02^(255 - e) for 02^e; the exponent 255, of 01, is no place of the table and counts as 0.
-    pub fn inverse(self) -> Element
-        ensures { λ r. ⌜ r .0 ≡ inverse (self .0) ⌝ }
+    pub fn inverse(self) -> Inverse
+        ensures { λ r. ⌜ r ≡ inverse (self .0) ⌝ }
     {
         if self.0 == 0 {
-            return Element(0);
+            return Inverse::None;
         }
-        power_of_two((255 - self.logarithm()) % 255)
+        Inverse::Is(power_of_two((255 - exponent_of(self)) % 255))
     }
 
-    // The exponent below 255 of the power of 02 that this is; 255 for 00.
-    pub fn logarithm(self) -> u64
+    pub fn logarithm(self) -> Logarithm
         ensures { λ r. ⌜ r ≡ logarithm (self .0) ⌝ }
     {
-        let x = self.0;
-        LOGARITHMS[x as usize] as u64
+        if self.0 == 0 {
+            return Logarithm::None;
+        }
+        Logarithm::Is(exponent_of(self))
     }
 }
 
@@ -77,4 +91,12 @@ fn power_of_two(exponent: u64) -> Element
     ensures { λ r. ⌜ r .0 ≡ power 2 exponent ⌝ }
 {
     Element(POWERS[exponent as usize])
+}
+
+// The exponent below 255 of the power of 02 that x is.
+fn exponent_of(x: Element) -> u64
+    requires { ⌜ x .0 ≢ 0 ⌝ }
+    ensures { λ r. ⌜ ExponentOf (x .0) r ⌝ }
+{
+    LOGARITHMS[(x.0 - 1) as usize] as u64
 }

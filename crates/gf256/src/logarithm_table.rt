@@ -1,6 +1,5 @@
-// The logarithms to base 02: entry x is the exponent of the power that is x; 255 for 00.
-pub const LOGARITHMS: [u8; 256] = [
-    255,
+// The logarithms to base 02 of the elements other than 00: entry x - 1 is the exponent of the power that is x.
+pub const LOGARITHMS: [u8; 255] = [
     0,
     1,
     25,

@@ -1,3 +1,2 @@
 pub mod Without
-pub mod Planned
 pub mod Again

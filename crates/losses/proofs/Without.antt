@@ -9,14 +9,14 @@ use native.Mathlib.Omega.{arith}
 use borrow.Author.Tests.{eq-eqb}
 use lib.Dec.{eqb}
 use Rattle.base.specs.Choice.{choose}
-use Rattle.gf256.specs.Field.{sum, product}
+use Rattle.gf256.specs.Field.{element, sum, product}
 use Rattle.gf256.proofs.Laws.{zero-sum}
 use Rattle.column.specs.Column.{Column, put, parityP, parityQ, syndromeP, syndromeQ, reedSolomon}
 use Rattle.column.proofs.Put.{put-other}
 use Rattle.column.proofs.Total.{total-same}
 use Rattle.losses.specs.declared.Rule.{Rule}
 use Rattle.losses.specs.declared.Rule.the-variants.{Mixed, Carried}
-use Rattle.losses.specs.Losses.{element, solution, without, solved}
+use Rattle.losses.specs.Losses.{solution, without, solved}
 
 module _ (x y : ℕ) (c : Column) where
   pub without-other : (r : ℕ) → r ≢ x → r ≢ y → without x y c r ≡ c r

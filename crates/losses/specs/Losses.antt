@@ -1,16 +1,11 @@
--- The losses by roles: take the lost roles as 00, take P* and Q* of that column, and solve them for the lost bytes by a rule. A plan says
--- which roles and which rule; parities alone are recomputed. Equations are numbered as in the paper.
+-- What a plan does to a column: take the lost roles as 00, take P* and Q* of that column, and solve them for the lost bytes by a rule; parities
+-- alone are recomputed. Equations are numbered as in the paper.
 use Prim.Native.Nat.{ℕ, _+_, _<_}
 use mathlib.Core.Bool.{true, false}
 use mathlib.Core.List.{List}
 use lib.ListN.{getD}
-use Rattle.gf256.specs.Field.{sum, product, power, inverse}
-use Rattle.gf256.specs.declared.Element.{Element}
-use Rattle.column.specs.declared.Device.{Device}
-use Rattle.column.specs.declared.Device.the-variants.{Data, P, Q}
-use Rattle.column.specs.declared.Lost.{Lost}
-use Rattle.column.specs.declared.Lost.the-variants.{One, Two}
-use Rattle.column.specs.Column.{Column, TwoBytes, put, total, parityQ, syndromeP, syndromeQ, encodeColumn, reedSolomon, coefficientA, coefficientB}
+use Rattle.gf256.specs.Field.{sum, product}
+use Rattle.column.specs.Column.{Column, TwoBytes, put, total, parityQ, syndromeP, syndromeQ, encodeColumn, reedSolomon}
 use Rattle.chunk.specs.Chunk.{each}
 use Rattle.losses.specs.declared.Rule.{Rule}
 use Rattle.losses.specs.declared.Rule.the-variants.{Mixed, Carried}
@@ -18,37 +13,6 @@ use Rattle.losses.specs.declared.Plan.{Plan}
 use Rattle.losses.specs.declared.Plan.the-variants.{ByP, FromData, ByBoth}
 use Rattle.losses.specs.declared.Restored.{Restored}
 
--- ---- the plan of a loss
-abbrev pub element : ℕ → Element
-element v = record { 0 = v }
-
--- equations 17 to 20
-abbrev pub coefficients : ℕ → ℕ → Rule
-coefficients x y = Mixed (element (coefficientA x y)) (element (coefficientB x y))
-
--- one device: by equation 1, and Q by equation 2
-abbrev pub alone : ℕ → Device → Plan
-alone n (Data x) = ByP x
-alone n P = ByP n
-alone n Q = FromData false
-
--- data disk x and another device
-abbrev pub withData : ℕ → ℕ → Device → Plan
-withData n x (Data y) = ByBoth x y (coefficients x y)
-withData n x P = ByBoth x n (Mixed (element 0) (element (inverse (power 2 x))))
-withData n x Q = ByBoth x (n + 1) (Carried (element (power 2 x)))
-
-abbrev pub planOf : ℕ → Lost → Plan
-planOf n (One d) = alone n d
-planOf n (Two (Data x) e) = withData n x e
-planOf n (Two P (Data x)) = withData n x P
-planOf n (Two P P) = alone n P
-planOf n (Two P Q) = FromData true
-planOf n (Two Q (Data x)) = withData n x Q
-planOf n (Two Q P) = FromData true
-planOf n (Two Q Q) = alone n Q
-
--- ---- what a plan does to a column
 -- the lost bytes, from P* and Q* of the column without them
 abbrev pub solution : Rule → ℕ → ℕ → TwoBytes
 solution (Mixed a b) p q =

@@ -1,13 +1,9 @@
-// The table of losses, by roles: the lost roles are taken as 00, and the lost bytes are solved from P*
-// and Q* of that column by a rule.
+// How lost roles are restored: they are taken as 00, and the lost bytes are solved from P* and Q* of
+// that column by a rule.
 use chunk::WIDTH;
-use column::Device;
-use column::Lost;
 use gf256::Element;
 ghost use mathlib.Core.Path.{_≡_};
-ghost use Prim.Native.Nat.{_%_, _<_};
-ghost use Rattle.gf256.specs.Field.{power};
-ghost use Rattle.losses.specs.Losses.{alone, withData, planOf, coefficients, solutions};
+ghost use Rattle.losses.specs.Losses.{solutions};
 
 // How the bytes of two lost roles come from P* and Q*, here p and q.
 pub enum Rule {
@@ -32,78 +28,6 @@ pub enum Plan {
 pub struct Restored {
     pub first: [u8; WIDTH],
     pub second: [u8; WIDTH],
-}
-
-// The plan of a loss. It reads the low 16 bits of n, which are those of every stripe within limits,
-// so that the roles fit.
-pub fn plan_of(n: usize, lost: Lost) -> Plan
-    ensures { λ r. ⌜ r ≡ planOf (n % 65536) lost ⌝ }
-{
-    let n = n % 65536;
-    match lost {
-        Lost::One(device) => alone(n, device),
-        Lost::Two(first, second) => together(n, first, second),
-    }
-}
-
-// One lost device.
-fn alone(n: usize, lost: Device) -> Plan
-    ensures { λ r. ⌜ r ≡ alone n lost ⌝ }
-{
-    match lost {
-        Device::Data(x) => Plan::ByP(x),
-        Device::P => Plan::ByP(n),
-        Device::Q => Plan::FromData(false),
-    }
-}
-
-// Two lost devices, in either order.
-fn together(n: usize, first: Device, second: Device) -> Plan
-    requires { ⌜ n < 65536 ⌝ }
-    ensures { λ r. ⌜ r ≡ planOf n (Lost.Two first second) ⌝ }
-{
-    match first {
-        Device::Data(x) => with_data(n, x, second),
-        Device::P => match second {
-            Device::Data(x) => with_data(n, x, Device::P),
-            Device::P => alone(n, Device::P),
-            Device::Q => Plan::FromData(true),
-        },
-        Device::Q => match second {
-            Device::Data(x) => with_data(n, x, Device::Q),
-            Device::P => Plan::FromData(true),
-            Device::Q => alone(n, Device::Q),
-        },
-    }
-}
-
-// Data disk x and another device.
-fn with_data(n: usize, x: usize, other: Device) -> Plan
-    requires { ⌜ n < 65536 ⌝ }
-    ensures { λ r. ⌜ r ≡ withData n x other ⌝ }
-{
-    match other {
-        Device::Data(y) => Plan::ByBoth(x, y, coefficients(x, y)),
-        Device::P => Plan::ByBoth(x, n, Rule::Mixed(Element(0), power_of_disk(x).inverse())),
-        Device::Q => Plan::ByBoth(x, n + 1, Rule::Carried(power_of_disk(x))),
-    }
-}
-
-// 02^x, by which disk x enters Q.
-fn power_of_disk(x: usize) -> Element
-    ensures { λ r. ⌜ r .0 ≡ power 2 x ⌝ }
-{
-    Element(2).power(x as u64)
-}
-
-// A and B of equations 17 and 18.
-fn coefficients(x: usize, y: usize) -> Rule
-    ensures { λ r. ⌜ r ≡ coefficients x y ⌝ }
-{
-    let over_x = power_of_disk(x).inverse();
-    let ratio = power_of_disk(y).product(over_x);
-    let scale = ratio.sum(Element(1)).inverse();
-    Rule::Mixed(ratio.product(scale), over_x.product(scale))
 }
 
 // The lost bytes at each place, by the rule.

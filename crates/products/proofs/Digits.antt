@@ -10,7 +10,7 @@ use lib.Pow.{shr-shr, shr-le}
 use Rattle.gf256.specs.Field.{sum, double, product}
 use Rattle.products.specs.Products.{plusBit}
 use Rattle.gf256.proofs.Check.{same, same-at}
-use Rattle.gf256.proofs.Laws.{sum-assoc, zero-sum, sum-zero, product-lt, product-left, product-comm, product-assoc, product-one, product-zero, double-product, sum-comm, sum-exchange, xor-lt, product-right}
+use Rattle.gf256.proofs.Laws.{sum-assoc, zero-sum, sum-zero, product-lt, product-left, product-comm, product-assoc, product-one, zero-product, double-product, sum-comm, sum-exchange, xor-lt, product-right}
 
 digits-tested : T (same 256 (λ c. c) (λ c. sum (c % 2) (double (c / 2))))
 unfolding double
@@ -18,9 +18,6 @@ digits-tested = tt
 
 pub double-lt : (x : ℕ) → x < 256 → double x < 256
 double-lt x h = rw (double-product x h) (product-lt 2 x)
-
-zero-product : (x : ℕ) → product 0 x ≡ 0
-zero-product x = product-comm 0 x ∙ product-zero x
 
 -- a + c x, with no digit left
 pub no-digit : (a x : ℕ) {c : ℕ} → c ≡ 0 → sum a (product c x) ≡ a

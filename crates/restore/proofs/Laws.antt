@@ -3,12 +3,12 @@
 use mathlib.Core.Path.{_≡_, sym, ap₂, _∙_}
 use Prim.Native.Nat.{ℕ, _+_}
 use mathlib.Core.List.{List}
-use Rattle.gf256.specs.Field.{sum}
-use Rattle.gf256.proofs.Laws.{product-comm, product-zero, sum-zero}
+use Rattle.gf256.specs.Field.{element, sum}
+use Rattle.gf256.proofs.Laws.{zero-product, sum-zero}
 use Rattle.column.specs.Column.{Column, parityQ, syndromeP, encodeColumn, reedSolomon}
 use Rattle.losses.specs.declared.Plan.{Plan}
 use Rattle.losses.specs.declared.Rule.the-variants.{Carried}
-use Rattle.losses.specs.Losses.{element, without, solved, restoredBy, KnownPlan}
+use Rattle.losses.specs.Losses.{without, solved, restoredBy, KnownPlan}
 use Rattle.losses.proofs.Without.{solved-as, parities-lost}
 use Rattle.shape.specs.declared.Geometry.{Geometry}
 use Rattle.shape.specs.Layout.{lift}
@@ -26,4 +26,4 @@ encode-solved n c =
     let lost = parities-lost n c in
     sym
     (solved-as n n (n + 1) c (Carried (element 0)) (sym (lost .0))
-    (sym (ap₂ sum (lost .1) (product-comm 0 (syndromeP n (without n (n + 1) c)) ∙ product-zero (syndromeP n (without n (n + 1) c))) ∙ sum-zero (parityQ reedSolomon n c))))
+    (sym (ap₂ sum (lost .1) (zero-product (syndromeP n (without n (n + 1) c))) ∙ sum-zero (parityQ reedSolomon n c))))

@@ -34,16 +34,22 @@ within-limits limits g e =
       block = ltb-false (limits .b) (g .b) (b .1);
     }
 
+-- what has the shape of a stripe is within the library's limits, and as long as it should be
+pub shape-accepted : (g : Geometry) (len : ℕ) → encodeRefusal g len ≡ 0 → Within library g × (len ≡ size g)
+shape-accepted g len e =
+    let parts = first-none (limitsRefusals library g) (refusal3 g len ∷ []) refl e in
+    (within-limits library g (parts .0), eqb-true len (size g) (not-false (eqb len (size g)) (none-applies (refusal3 g len ∷ []) refl (parts .1) .0)))
+
 pub well-shaped : (g : Geometry) (s : List ℕ) → encodeRefusal g (length s) ≡ 0 → WellShaped g s
 well-shaped g s e =
-    let parts = first-none (limitsRefusals library g) (refusal3 g (length s) ∷ []) refl e in
-    let limits = within-limits library g (parts .0) in
+    let told = shape-accepted g (length s) e in
+    let limits = told .0 in
     record {
       disks = limits .disks;
       block = limits .block;
       some = limits .some;
       disk = limits .disk;
-      whole = eqb-true (length s) (size g) (not-false (eqb (length s) (size g)) (none-applies (refusal3 g (length s) ∷ []) refl (parts .1) .0));
+      whole = told .1;
     }
 
 -- ---- calls that are accepted

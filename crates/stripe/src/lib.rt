@@ -4,6 +4,7 @@
 use column::Lost;
 use devices::Naming;
 use losses::Plan;
+use plans::Asked;
 use shape::Geometry;
 ghost use Rattle.stripe.specs.Calls.{EncodeCall, RebuildCall, RebuildNamedCall, CheckCall};
 
@@ -29,12 +30,13 @@ pub fn encode(g: Geometry, stripe: &mut [u8]) -> u8
 pub fn rebuild(g: Geometry, stripe: &mut [u8], lost: Lost) -> u8
     ensures { λ r. ⌜ RebuildCall g lost (now (stripe .entry)) r (now (stripe .exit)) ⌝ }
 {
-    let refused = devices::rebuild_refusal(g, stripe.len(), lost);
-    if refused != 0 {
-        return refused;
+    match plans::plan_of(g, stripe.len(), lost) {
+        Asked::Refused(refused) => refused,
+        Asked::Rebuild(plan) => {
+            restore::restore(g, stripe, plan);
+            0
+        }
     }
-    restore::restore(g, stripe, losses::plan_of(g.n, lost));
-    0
 }
 
 // Rebuild with the devices given by their codes, as the job and C give them.

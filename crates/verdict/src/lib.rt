@@ -1,6 +1,8 @@
 // The verdict that P* and Q* give, on one column and on the columns of a chunk, and the summary.
 use chunk::WIDTH;
 use gf256::Element;
+use gf256::Inverse;
+use gf256::Logarithm;
 ghost use mathlib.Core.Path.{_≡_};
 ghost use lib.ListN.{length, getD};
 ghost use Rattle.base.specs.Table.{tabulate};
@@ -9,7 +11,8 @@ ghost use Rattle.chunk.specs.Chunk.{width};
 ghost use Rattle.verdict.specs.Summary.{joined, WithSummary};
 ghost use Rattle.verdict.specs.Verdicts.{verdictsOf};
 
-// The four rows of the paper's table, and equation 27.
+// The four rows of the paper's table, and equation 27. Neither P* nor Q* is 00 where they are divided,
+// so P* has an inverse and the quotient a logarithm.
 pub fn verdict_of(n: usize, p: Element, q: Element) -> u16
     ensures { λ r. ⌜ r ≡ verdictOf n (p .0) (q .0) ⌝ }
 {
@@ -22,11 +25,26 @@ pub fn verdict_of(n: usize, p: Element, q: Element) -> u16
     if q.0 == 0 {
         return 1;
     }
-    let z = q.product(p.inverse()).logarithm() as usize;
-    if n <= z {
-        return 3;
+    match p.inverse() {
+        Inverse::Is(over_p) => match q.product(over_p).logarithm() {
+            Logarithm::Is(z) => {
+                if n <= z as usize {
+                    return 3;
+                }
+                (16 + z) as u16
+            }
+            Logarithm::None => never(),
+        },
+        Inverse::None => never(),
     }
-    (16 + z) as u16
+}
+
+// Nobody can call this: it closes the arm of an answer that is never none.
+fn never() -> u16
+    requires { ⌜ ⊥ ⌝ }
+    ensures { λ r. ⌜ ⊥ ⌝ }
+{
+    loop {}
 }
 
 // The summary of two stretches of columns from their summaries.

@@ -5,12 +5,13 @@ use mathlib.Core.Path.{_≡_, refl, ap₂, _∙_}
 use mathlib.Core.List.{List}
 use Prim.Native.Nat.{ℕ}
 use lib.ListN.{length, getD, replicate, getD-replicate}
+use Rattle.gf256.specs.Field.{element}
 use Rattle.base.proofs.Table.{getD-tabulate, is-tabulate, tabulate-same}
 use Rattle.chunk.specs.Chunk.{width, each, plus}
 use Rattle.products.specs.Products.{plusProduct}
 use Rattle.losses.specs.declared.Restored.{Restored}
 use Rattle.losses.specs.declared.Rule.the-variants.{Mixed}
-use Rattle.losses.specs.Losses.{element, solutions}
+use Rattle.losses.specs.Losses.{solutions}
 use Rattle.losses.proofs.solve.Statement.{statement}
 use Rattle.losses.proofs.solve.Tie as tie
 

@@ -3,12 +3,16 @@
 -- Assumes nothing.
 use mathlib.Core.Path.{_≡_, refl, sym, ap, _∙_}
 use mathlib.Core.Logic.{_≢_}
+use mathlib.Core.Bool.{Bool, true, false}
 use Prim.Native.Nat.{ℕ, _+_, _≤_, _<_}
+use native.Mathlib.Nat.{suc-ne-zero}
 use native.Mathlib.Numerals.{add-one}
 use native.Mathlib.Omega.{arith}
-use borrow.Author.Tests.{eq-eqb, ne-eqb}
-use Rattle.gf256.specs.Field.{sum, product, power}
-use Rattle.gf256.proofs.Laws.{sum-comm, sum-zero, product-zero, product-comm, product-right}
+use borrow.Author.Tests.{eq-eqb, ne-eqb, eqb-true, eqb-false}
+use lib.Dec.{eqb}
+use Rattle.base.specs.Choice.{choose}
+use Rattle.gf256.specs.Field.{sum, power}
+use Rattle.gf256.proofs.Laws.{sum-comm, sum-zero, zero-product, product-right}
 use Rattle.column.specs.declared.Device.{Device}
 use Rattle.column.specs.declared.Device.the-variants.{Data, P, Q}
 use Rattle.column.specs.declared.Lost.{Lost}
@@ -17,7 +21,13 @@ use Rattle.column.specs.Column.{Column, put, total, parityP, fromP, fromQ, exch
 use Rattle.column.specs.Loss.{KnownLoss}
 use Rattle.column.proofs.Put.{put-comm}
 use Rattle.column.proofs.Weighted.{Additive, weighted, weighted-put, weighted-outside}
-use Rattle.losses.specs.Losses.{planOf, withData, without, byP, solved, restoredBy, KnownPlan}
+use Rattle.shape.specs.declared.Geometry.{Geometry}
+use Rattle.devices.specs.Refusals.{rebuildRefusal}
+use Rattle.losses.specs.declared.Plan.{Plan}
+use Rattle.plans.specs.declared.Asked.{Asked}
+use Rattle.plans.specs.declared.Asked.the-variants.{Refused, Rebuild}
+use Rattle.losses.specs.Losses.{without, byP, solved, restoredBy, KnownPlan}
+use Rattle.plans.specs.Plans.{planOf, askedOf, withData}
 
 module _ (n : ℕ) (c : Column) where
   -- equation 1
@@ -33,10 +43,7 @@ module _ (n : ℕ) (c : Column) where
     data-and-p : restoredBy n (withData n x P) c ≡ rebuildColumn reedSolomon n (Two (Data x) P) c
     unfolding reedSolomon solved
     data-and-p =
-        simp (data-alone (λ k v. v) (λ k v w. refl) x n h (omega arith), data-alone (reedSolomon .act) (λ k. product-right (power 2 k)) x n h (omega arith), eq-eqb n n refl, ne-eqb n x (omega arith), ne-eqb (n + 1) x (omega arith), ne-eqb (n + 1) n (omega arith), no-product, weighted-put (λ k v. v) (λ k v w. refl) n c x (fromQ reedSolomon n x c) h)
-      where
-        no-product : (v : ℕ) → product 0 v ≡ 0
-        no-product v = product-comm 0 v ∙ product-zero v
+        simp (data-alone (λ k v. v) (λ k v w. refl) x n h (omega arith), data-alone (reedSolomon .act) (λ k. product-right (power 2 k)) x n h (omega arith), eq-eqb n n refl, ne-eqb n x (omega arith), ne-eqb (n + 1) x (omega arith), ne-eqb (n + 1) n (omega arith), zero-product, weighted-put (λ k v. v) (λ k v w. refl) n c x (fromQ reedSolomon n x c) h)
 
     data-and-q : restoredBy n (withData n x Q) c ≡ rebuildColumn reedSolomon n (Two (Data x) Q) c
     unfolding reedSolomon solved
@@ -79,3 +86,22 @@ plan-known n (Two P Q) h = tt
 plan-known n (Two Q (Data x)) h = (omega arith, omega arith)
 plan-known n (Two Q P) h = tt
 plan-known n (Two Q Q) h = tt
+
+-- ---- what a rebuild is told
+module _ (g : Geometry) (len : ℕ) (lost : Lost) where
+  abbrev told : Bool → Asked
+  told b = choose b (Rebuild (planOf (g .n) lost)) (Refused (rebuildRefusal g len lost))
+
+  pub asked-refused : {r : ℕ} → askedOf g len lost ≡ Refused r → (r ≡ rebuildRefusal g len lost) × (r ≢ 0)
+  asked-refused {r} = go (eqb (rebuildRefusal g len lost) 0) refl
+    where
+      go : (b : Bool) → eqb (rebuildRefusal g len lost) 0 ≡ b → told b ≡ Refused r → (r ≡ rebuildRefusal g len lost) × (r ≢ 0)
+      go true t e = absurd (suc-ne-zero 0 cc)
+      go false t e = let same : r ≡ rebuildRefusal g len lost = cc in (same, λ z. eqb-false (rebuildRefusal g len lost) 0 t (sym same ∙ z))
+
+  pub asked-plan : {plan : Plan} → askedOf g len lost ≡ Rebuild plan → (rebuildRefusal g len lost ≡ 0) × (plan ≡ planOf (g .n) lost)
+  asked-plan {plan} = go (eqb (rebuildRefusal g len lost) 0) refl
+    where
+      go : (b : Bool) → eqb (rebuildRefusal g len lost) 0 ≡ b → told b ≡ Rebuild plan → (rebuildRefusal g len lost ≡ 0) × (plan ≡ planOf (g .n) lost)
+      go true t e = (eqb-true (rebuildRefusal g len lost) 0 t, cc)
+      go false t e = absurd (suc-ne-zero 0 cc)

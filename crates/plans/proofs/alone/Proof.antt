@@ -1,8 +1,8 @@
--- `losses::alone` meets its contract, by the device's case.
+-- `plans::alone` meets its contract, by the device's case.
 -- Assumes nothing.
 use borrow.Author.Needs.{needs}
-use Rattle.losses.proofs.alone.Statement.{statement}
-use Rattle.losses.proofs.alone.Tie as tie
+use Rattle.plans.proofs.alone.Statement.{statement}
+use Rattle.plans.proofs.alone.Tie as tie
 
 enum-known-lost : tie.Need-enum-known-lost
 enum-known-lost c = search needs

@@ -1,14 +1,27 @@
--- `losses::together` meets its contract, by the two devices' cases.
+-- `plans::together` meets its contract, by the two devices' cases.
 -- Assumes nothing.
+use mathlib.Core.Path.{_≡_, subst}
+use Prim.Native.Nat.{ℕ, _<_}
+use native.Mathlib.Omega.{arith}
 use borrow.Author.Needs.{needs}
-use Rattle.losses.proofs.together.Statement.{statement}
-use Rattle.losses.proofs.together.Tie as tie
+use Rattle.column.specs.declared.Device.{Device}
+use Rattle.column.specs.declared.Device.the-variants.{Data}
+use Rattle.column.specs.declared.Lost.the-variants.{Two}
+use Rattle.column.specs.Loss.{Known, KnownLoss}
+use Rattle.plans.proofs.together.Statement.{statement}
+use Rattle.plans.proofs.together.Tie as tie
+
+-- a data disk as the second device
+below : (n : ℕ) (d : Device) {e : Device} {x : ℕ} → KnownLoss n (Two d e) → e ≡ Data x → x < n
+below n d h is = subst (λ (f : Device). Known n f) is (h .1)
 
 enum-known-first : tie.Need-enum-known-first
 enum-known-first c = search needs
 
 with-data-requires : tie.Need-with-data-requires
-with-data-requires c κs = search needs
+with-data-requires c κs =
+    let start = c .before .before .before in
+    (start .pre .0, subst (λ (d : Device). KnownLoss (start .args .n) (Two d (start .args .second))) (c .before .first .given .1) (start .pre .1))
 
 enum-told : tie.Need-enum-told
 enum-told c = search needs
@@ -17,7 +30,11 @@ enum-known-second : tie.Need-enum-known-second
 enum-known-second c = search needs
 
 with-data-requires-2 : tie.Need-with-data-requires-2
-with-data-requires-2 c κs = search needs
+with-data-requires-2 c κs =
+    let start = c .before .before .before .before .before in
+    let n = start .args .n in
+    let h = below n (start .args .first) (start .pre .1) (c .before .second .given .1) in
+    (start .pre .0, (h, tt, λ e. omega arith))
 
 enum-told-2 : tie.Need-enum-told-2
 enum-told-2 c = search needs
@@ -35,7 +52,11 @@ enum-known-second-2 : tie.Need-enum-known-second-2
 enum-known-second-2 c = search needs
 
 with-data-requires-3 : tie.Need-with-data-requires-3
-with-data-requires-3 c κs = search needs
+with-data-requires-3 c κs =
+    let start = c .before .before .before .before .before in
+    let n = start .args .n in
+    let h = below n (start .args .first) (start .pre .1) (c .before .second2 .given .1) in
+    (start .pre .0, (h, tt, λ e. omega arith))
 
 enum-told-5 : tie.Need-enum-told-5
 enum-told-5 c = search needs
