@@ -1,5 +1,7 @@
-//! Links anew where the check for the bench changed.
+//! Links anew where the check or the product for the bench changed.
 
 fn main() {
-    println!("cargo:rerun-if-changed=../target/staticlib/libbench_check.a");
+    for library in ["libbench_check.a", "libbench_product.a"] {
+        println!("cargo:rerun-if-changed=../target/staticlib/{library}");
+    }
 }

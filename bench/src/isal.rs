@@ -1,8 +1,13 @@
-//! ISA-L's encoder and check, where it is installed.
+//! ISA-L's encoder, check and product of two bytes, where it is installed.
 
 use crate::library::Library;
+use crate::product::Product;
 use crate::shelf::Stripe;
 use std::ffi::{c_int, c_void};
+
+fn library() -> Option<Library> {
+    Library::find(&[c"libisal.so.2", c"libisal.so"])
+}
 
 /// Both functions take the number of blocks with the parities, their length and their places; 0 is
 /// a pass.
@@ -19,7 +24,7 @@ impl Isal {
         if !is_x86_feature_detected!("sse4.1") {
             return None;
         }
-        let library = Library::find(&[c"libisal.so.2", c"libisal.so"])?;
+        let library = library()?;
         Some(unsafe { Isal { generate: library.function(c"pq_gen_sse")?, check: library.function(c"pq_check_sse")? } })
     }
 
@@ -49,4 +54,9 @@ impl Call {
     pub fn finds_clean(&self) -> bool {
         self.run(self.isal.check) == 0
     }
+}
+
+/// The product of two bytes, gf_mul. It wants no vector instructions, so it is found apart from the others.
+pub fn product() -> Option<Product> {
+    unsafe { library()?.function(c"gf_mul") }
 }

@@ -1,7 +1,8 @@
 //! Measures libshelf.a, and the library's check, beside a plain encoder in Rust and, where they are there, ISA-L and
-//! Linux's rebuild of two data disks.
+//! Linux's rebuild of two data disks; and the library's product of two bytes, beside the way by powers and logarithms in plain
+//! Rust and, where it is there, ISA-L's.
 //!
-//!     bench                 the table of ratios
+//!     bench                 the table of ratios, and the one of products of two bytes
 //!     bench --stack         the bytes of stack that each call uses
 //!     bench --plot FILE     how the time of an encode grows with n and B, as SVG
 
@@ -11,6 +12,7 @@ mod linux;
 mod measure;
 mod plain;
 mod plot;
+mod product;
 mod shelf;
 mod stack;
 mod table;
@@ -24,7 +26,11 @@ use shelf::Stripe;
 fn main() {
     let words: Vec<String> = std::env::args().skip(1).collect();
     match words.iter().map(String::as_str).collect::<Vec<_>>()[..] {
-        [] => table::print(Isal::find(), Linux::find()),
+        [] => {
+            table::print(Isal::find(), Linux::find());
+            println!();
+            product::print();
+        }
         ["--stack"] => stack::print(),
         ["--plot", file] => std::fs::write(file, plot::svg()).unwrap_or_else(|e| panic!("{file}: {e}")),
         _ => {

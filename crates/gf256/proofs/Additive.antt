@@ -50,19 +50,20 @@ pub additive-times : {d : ℕ} → Digit d → Additive (λ x. d * x)
 additive-times off x y = simp zero-mul
 additive-times on x y = simp one-mul
 
+-- a number is the sum of its digits from the kth up and those below
+pub parted : (x k : ℕ) → x ≡ bitXor (x / 2 ^ k * 2 ^ k) (x % 2 ^ k)
+parted x k = sym (xor-shifted (x / 2 ^ k) k (x % 2 ^ k) (mod-lt x (pow-pos k)) ∙ split x k)
+
 module _ (f g : ℕ → ℕ) (add-f : Additive f) (add-g : Additive g) where
   pub agree : (k : ℕ) → ((i : ℕ) → i < k → f (2 ^ i) ≡ g (2 ^ i)) → (x : ℕ) → x < 2 ^ k → f x ≡ g x
   agree zero basis x h = ap f (lt-one h) ∙ additive-zero f add-f ∙ sym (ap g (lt-one h) ∙ additive-zero g add-g)
   agree (suc k) basis x h =
-      ap f whole
+      ap f (parted x k)
       ∙ add-f (x / 2 ^ k * 2 ^ k) (x % 2 ^ k)
       ∙ ap₂ bitXor (top (digit (x / 2 ^ k) (shr-lt 1 k (rw one-add h))))
       (agree k (λ i l. basis i (omega arith)) (x % 2 ^ k) (mod-lt x (pow-pos k)))
-      ∙ sym (ap g whole ∙ add-g (x / 2 ^ k * 2 ^ k) (x % 2 ^ k))
+      ∙ sym (ap g (parted x k) ∙ add-g (x / 2 ^ k * 2 ^ k) (x % 2 ^ k))
     where
-      whole : x ≡ bitXor (x / 2 ^ k * 2 ^ k) (x % 2 ^ k)
-      whole = sym (xor-shifted (x / 2 ^ k) k (x % 2 ^ k) (mod-lt x (pow-pos k)) ∙ split x k)
-
       top : {d : ℕ} → Digit d → f (d * 2 ^ k) ≡ g (d * 2 ^ k)
       top off = rw zero-mul (additive-zero f add-f ∙ sym (additive-zero g add-g))
       top on = rw one-mul (basis k (le-refl (suc k)))

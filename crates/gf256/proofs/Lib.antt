@@ -1,7 +1,9 @@
+pub mod Arms
 pub mod Check
 pub mod Xor
 pub mod Additive
 pub mod Product
 pub mod Tables
+pub mod SplitTables
 pub mod Powers
 pub mod Laws

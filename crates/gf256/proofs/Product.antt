@@ -127,7 +127,7 @@ product-comm a b = sym (product-mod a b) ∙ bytes (a % 256) (b % 256) (low a) (
         a ha
 
 -- times 02 again and again: a factor of it may be taken out of the right side, and the product with 02^k is k of them
-abbrev doubled : ℕ → ℕ → ℕ
+abbrev pub doubled : ℕ → ℕ → ℕ
 doubled zero x = x
 doubled (suc k) x = product 2 (doubled k x)
 
@@ -154,7 +154,7 @@ taken-out a b ha hb =
     b hb)
     a ha
 
-doubled-lt : (k x : ℕ) → x < 256 → doubled k x < 256
+pub doubled-lt : (k x : ℕ) → x < 256 → doubled k x < 256
 doubled-lt zero x h = h
 doubled-lt (suc k) x h = product-lt 2 (doubled k x)
 
@@ -169,7 +169,7 @@ power-tested : T (all 8 power-at)
 unfolding product carryless remainder
 power-tested = tt
 
-by-power : (k x : ℕ) → k < 8 → x < 256 → product x (2 ^ k) ≡ doubled k x
+pub by-power : (k x : ℕ) → k < 8 → x < 256 → product x (2 ^ k) ≡ doubled k x
 by-power k x hk hx =
     agree (λ y. product y (2 ^ k)) (doubled k) (product-left (2 ^ k)) (doubled-additive k) 8
     (same-at 8 (λ i. product (2 ^ i) (2 ^ k)) (λ i. doubled k (2 ^ i)) (all-at 8 power-at power-tested k hk))

@@ -1,5 +1,5 @@
--- The rules of the two tables, each computed once over all of its entries: a power is 02 times the one before it, and after the last
--- comes the first again, and none is 00; the logarithm undoes the power, and the power the logarithm.
+-- The rules of the tables of powers and logarithms, each computed once over all of its entries: a power is 02 times the one before it,
+-- and after the last comes the first again, and none is 00; the logarithm undoes the power, and the power the logarithm.
 -- Assumes nothing.
 use mathlib.Core.Path.{_≡_, refl}
 use mathlib.Core.List.{List, [], _∷_}

@@ -6,7 +6,7 @@ use mathlib.Core.Bool.{true, false}
 use mathlib.Core.Logic.{_≢_}
 use native.Mathlib.Nat.{suc-ne-zero}
 use lib.Bits.{bitXor, differ}
-use lib.Dec.{eqb}
+use lib.Dec.{eqb, ltb}
 use Rattle.gf256.specs.declared.Element.{Element}
 use Rattle.gf256.specs.declared.Inverse.{Inverse}
 use Rattle.gf256.specs.declared.Inverse.the-variants.{Is as InverseIs, None as NoInverse}
@@ -86,3 +86,7 @@ logarithm x = firstExponent x 0 255
 pub record ExponentOf (x e : ℕ) : Type 0 where
   pub below : e < 255
   pub is : power 2 e ≡ x
+
+-- what a private function of the code reads: entry p of a table of sixteen bytes in two words, the lowest byte first
+unfoldable pub entryOf : ℕ → ℕ → ℕ → ℕ
+entryOf first second p = elim (ltb p 8) [ true ↦ first | false ↦ second ] / 2 ^ (8 * (p % 8)) % 256

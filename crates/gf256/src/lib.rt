@@ -3,9 +3,11 @@
 // exponents cannot be mixed.
 mod logarithm_table;
 mod power_table;
+mod split_tables;
 
 use logarithm_table::LOGARITHMS;
 use power_table::POWERS;
+use split_tables::split_product;
 ghost use mathlib.Core.Path.{_≡_};
 ghost use mathlib.Core.Logic.{_≢_};
 ghost use Prim.Native.Nat.{_<_};
@@ -40,17 +42,11 @@ impl Element {
         Element(((x % 128) * 2) ^ (x / 128 * 0x1d))
     }
 
-    // The power of 02 at the sum of the exponents; 00 is no power and is handled apart.
+    // By the split tables of the first factor.
     pub fn product(self, other: Element) -> Element
         ensures { λ r. ⌜ r .0 ≡ product (self .0) (other .0) ⌝ }
     {
-        if self.0 == 0 {
-            return Element(0);
-        }
-        if other.0 == 0 {
-            return other;
-        }
-        power_of_two((exponent_of(self) + exponent_of(other)) % 255)
+        Element(split_product(self.0, other.0))
     }
 
     // Exponents of a nonzero element count modulo 255.
