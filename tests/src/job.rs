@@ -89,10 +89,9 @@ fn run(job: &[u8]) -> Result<Vec<u8>, u8> {
     Ok(bytes)
 }
 
-/// The summary, which is the first verdict that isn't 0, and the verdicts.
+/// The summary and the verdicts.
 fn report(verdicts: &[u16]) -> Vec<u8> {
-    let summary = verdicts.iter().find(|&&verdict| verdict != 0).unwrap_or(&0);
-    [summary].into_iter().chain(verdicts).flat_map(|number| number.to_be_bytes()).collect()
+    [&stripe::summary(verdicts)].into_iter().chain(verdicts).flat_map(|number| number.to_be_bytes()).collect()
 }
 
 #[cfg(test)]
@@ -109,8 +108,9 @@ mod tests {
 
     #[test]
     fn a_check_gives_the_summary_and_the_verdicts() {
-        let job = Header::new(CHECK, 1, 3, NO_DEVICE, NO_DEVICE).with(&[5, 6, 7, 5, 6, 8, 5, 7, 7]);
-        assert_eq!(answer(&job)[5..], [0, 0, 2, 0, 0, 0, 2, 0, 1]);
+        let report = |stripe: &[u8]| answer(&Header::new(CHECK, 1, 3, NO_DEVICE, NO_DEVICE).with(stripe))[5..].to_vec();
+        assert_eq!(report(&[5, 6, 7, 5, 6, 7, 5, 7, 8]), [0, 0, 2, 0, 0, 0, 2, 0, 2]);
+        assert_eq!(report(&[5, 6, 7, 5, 6, 8, 5, 7, 7]), [0, 0, 4, 0, 0, 0, 2, 0, 1]);
     }
 
     #[test]

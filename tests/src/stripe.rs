@@ -103,6 +103,22 @@ pub fn check(n: u64, b: u64, stripe: &[u8]) -> Result<Vec<u16>, u8> {
     }
 }
 
+/// The summary of a check where the unclean columns do not agree.
+pub const MIXED: u16 = 4;
+
+/// 0 if all columns are clean, the common verdict if all unclean ones agree, and else 4: by the set of the verdicts that
+/// aren't 0.
+pub fn summary(verdicts: &[u16]) -> u16 {
+    let mut unclean: Vec<u16> = verdicts.iter().copied().filter(|&verdict| verdict != 0).collect();
+    unclean.sort_unstable();
+    unclean.dedup();
+    match unclean[..] {
+        [] => 0,
+        [common] => common,
+        _ => MIXED,
+    }
+}
+
 #[cfg(test)]
 mod tests {
     use super::*;
@@ -162,5 +178,24 @@ mod tests {
         stripe[2] ^= 8;
         assert_eq!(check(2, 3, &stripe), Ok(vec![0, 1, 16]));
         assert_eq!(check(2, 3, &stripe[1..]), Err(3));
+    }
+
+    #[test]
+    fn the_summary_names_what_all_unclean_columns_name() {
+        for (verdicts, expected) in [
+            (&[][..], 0),
+            (&[0, 0, 0], 0),
+            (&[0, 18, 0, 18], 18),
+            (&[1, 1], 1),
+            (&[2, 0], 2),
+            (&[3, 3, 0], 3),
+            (&[0, 0, 0, 0, 0, 18, 0, 0, 0, 23], MIXED),
+            (&[1, 2], MIXED),
+            (&[2, 0, 1, 2], MIXED),
+            (&[17, 3], MIXED),
+            (&[17, 18, 17], MIXED),
+        ] {
+            assert_eq!(summary(verdicts), expected, "{verdicts:?}");
+        }
     }
 }

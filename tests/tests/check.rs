@@ -3,7 +3,7 @@
 
 use outside::random::Random;
 use outside::shapes::{BLOCKS, DISKS, FEW_DISKS, LARGE_BLOCKS};
-use outside::stripe::{self, LARGEST_BLOCK};
+use outside::stripe::{self, LARGEST_BLOCK, MIXED};
 
 #[link(name = "bench_check", kind = "static")]
 extern "C" {
@@ -27,9 +27,8 @@ fn proved(n: u64, b: u64, stripe: &[u8], count: usize) -> (u16, Vec<u16>) {
 fn compare(n: u64, b: u64, stripe: &[u8]) {
     let before = stripe.to_vec();
     let expected = stripe::check(n, b, stripe).expect("a stripe has its length");
-    let summary = expected.iter().copied().find(|&verdict| verdict != 0).unwrap_or(0);
     let (result, verdicts) = proved(n, b, stripe, b as usize);
-    assert_eq!(result, summary, "n {n}, b {b}");
+    assert_eq!(result, stripe::summary(&expected), "n {n}, b {b}");
     let difference = verdicts.iter().zip(&expected).position(|(got, want)| got != want);
     assert_eq!(difference, None, "first wrong column; n {n}, b {b}");
     assert!(stripe == before, "the stripe changed; n {n}, b {b}");
@@ -50,6 +49,89 @@ fn shape(random: &mut Random, n: u64, b: u64) {
         block[random.within(0, b as usize - 1)] ^= random.within(1, 255) as u8;
     }
     compare(n, b, &stripe);
+}
+
+/// The summary of an encoded stripe with some bytes changed, each given as its device's place and its column.
+fn summary_with(random: &mut Random, n: u64, b: u64, changed: &[(u64, u64)]) -> u16 {
+    let mut stripe = random.bytes(((n + 2) * b) as usize);
+    assert_eq!(stripe::encode(n, b, &mut stripe), 0);
+    for (device, column) in changed {
+        stripe[(device * b + column) as usize] ^= random.within(1, 255) as u8;
+    }
+    compare(n, b, &stripe);
+    proved(n, b, &stripe, b as usize).0
+}
+
+/// The verdict that names the device at a place.
+fn naming(n: u64, device: u64) -> u16 {
+    match device.checked_sub(n) {
+        None => 16 + device as u16,
+        Some(0) => 1,
+        Some(_) => 2,
+    }
+}
+
+/// Two columns, of one chunk, of different chunks, of different strips, and of the part behind the last whole chunk, each with one
+/// wrong byte: on one device the summary names it, and on two different ones it is 4.
+#[test]
+fn two_unclean_columns_agree_or_are_mixed() {
+    let mut random = Random::new(3);
+    for (n, b, columns) in [
+        (2, 2, &[0, 1][..]),
+        (8, 10, &[5, 9]),
+        (8, 63, &[0, 62]),
+        (8, 200, &[0, 63, 64, 130, 191, 192, 199]),
+        (8, 4096, &[0, 1, 64, 2048, 4095]),
+        (65, 1024, &[0, 63, 64, 1023]),
+        (65, 1500, &[0, 475, 476, 1023, 1024, 1499]),
+        (255, 2100, &[0, 1023, 1024, 1075, 2047, 2048, 2099]),
+    ] {
+        for &one in columns {
+            for &other in columns.iter().filter(|&&other| other != one) {
+                let first = random.within(0, n as usize + 1) as u64;
+                let second = (first + random.within(1, n as usize + 1) as u64) % (n + 2);
+                for [d, e] in [[first, second], [n, n + 1], [n + 1, n], [first, n], [n + 1, second]] {
+                    let expected = if d == e { naming(n, d) } else { MIXED };
+                    assert_eq!(
+                        summary_with(&mut random, n, b, &[(d, one), (e, other)]),
+                        expected,
+                        "n {n}, b {b}, {d} at {one}, {e} at {other}"
+                    );
+                    assert_eq!(
+                        summary_with(&mut random, n, b, &[(d, one), (d, other)]),
+                        naming(n, d),
+                        "n {n}, b {b}, {d} at {one} and {other}"
+                    );
+                }
+            }
+        }
+    }
+}
+
+/// One device with a wrong byte on any columns is named.
+#[test]
+fn one_changed_device_is_named() {
+    let mut random = Random::new(4);
+    for (n, b) in [(1, 1), (2, 65), (8, 300), (64, 1024), (65, 1025), (255, 1100)] {
+        for device in [0, n - 1, n, n + 1, random.within(0, n as usize + 1) as u64] {
+            let columns: Vec<(u64, u64)> =
+                (0..b).filter(|column| column % 7 == 0 || random.within(0, 3) == 0).map(|column| (device, column)).collect();
+            assert_eq!(summary_with(&mut random, n, b, &columns), naming(n, device), "n {n}, b {b}, device {device}");
+        }
+        assert_eq!(summary_with(&mut random, n, b, &[]), 0, "n {n}, b {b}");
+    }
+}
+
+/// What differs in one column alone is found wherever that column stands among those of another device.
+#[test]
+fn one_column_of_another_device() {
+    let mut random = Random::new(5);
+    for (n, b) in [(3, 5), (8, 130), (65, 1100)] {
+        for other in 0..b {
+            let columns: Vec<(u64, u64)> = (0..b).map(|column| (if column == other { n } else { 1 }, column)).collect();
+            assert_eq!(summary_with(&mut random, n, b, &columns), MIXED, "n {n}, b {b}, column {other}");
+        }
+    }
 }
 
 #[test]

@@ -26,14 +26,29 @@ use Rattle.column.specs.Lawful.{Symbols}
 use Rattle.demands.proofs.Bytes.{columns-symbols}
 use Rattle.column.proofs.Verdicts.{verdict-zero, verdict-p, verdict-q, verdict-data, verdict-local}
 
--- the device of a column that no longer has its byte is named
-verdict-right : (n : ℕ) → n ≤ 255 → (c : Column) → Symbols 8 c → Encoded reedSolomon n c → (v : ℕ) → v < 256 → (d : Device)
-    → KnownLoss n (One d)
-    → v ≢ c (roleOf n d)
-    → verdict n (put (roleOf n d) v c) ≡ rightVerdict d
-verdict-right n few c symbols h v byte (Data z) known changed = verdict-data n few c symbols h v byte z known changed
-verdict-right n few c symbols h v byte P known changed = verdict-p n few c symbols h v byte changed
-verdict-right n few c symbols h v byte Q known changed = verdict-q n few c symbols h v byte changed
+-- where the column c was encoded and e differs from it on one device, the verdict on e names that device
+pub verdict-right : (n : ℕ) → n ≤ 255 → (c e : Column) → Symbols 8 c → Symbols 8 e → Encoded reedSolomon n c → (d : Device) → KnownLoss n (One d)
+    → ((r : ℕ) → r < n + 2 → Spared n (One d) r → e r ≡ c r)
+    → e (roleOf n d) ≢ c (roleOf n d)
+    → verdict n e ≡ rightVerdict d
+verdict-right n few c e hc he h d known others changed =
+    verdict-local n e (put x v c) (λ r hr. at r hr (ℕ-discrete r x)) ∙ named d known changed (he x)
+  where
+    x : ℕ
+    x = roleOf n d
+
+    v : ℕ
+    v = e x
+
+    at : (r : ℕ) → r < n + 2 → Dec (r ≡ x) → e r ≡ put x v c r
+    at r hr (yes e) = rw e (sym (put-same x v c))
+    at r hr (no m) = others r hr m ∙ sym (put-other x v c r m)
+
+    named : (d : Device) → KnownLoss n (One d) → e (roleOf n d) ≢ c (roleOf n d) → e (roleOf n d) < 256
+        → verdict n (put (roleOf n d) (e (roleOf n d)) c) ≡ rightVerdict d
+    named (Data z) known changed byte = verdict-data n few c hc h (e z) byte z known changed
+    named P known changed byte = verdict-p n few c hc h (e n) byte changed
+    named Q known changed byte = verdict-q n few c hc h (e (n + 1)) byte changed
 
 module _ (g : Geometry) (t room : List ℕ) (accepted : checkRefusal g (length t) (length room) ≡ 0) (i : ℕ) (hi : i < g .b) where
   few : g .n ≤ 255
@@ -60,18 +75,7 @@ module _ (g : Geometry) (t room : List ℕ) (accepted : checkRefusal g (length t
         → getD (afterCheck g t room) i 0 ≡ rightVerdict d
     check-right hs ht d known others changed =
         after-check
-        ∙ verdict-local (g .n) (column g t i) (put x v (column g s i)) (λ r hr. at r hr (ℕ-discrete r x))
-        ∙ verdict-right (g .n) few (column g s i) (columns-symbols g s hs i) h v (columns-symbols g t ht i x) d known changed
-      where
-        x : ℕ
-        x = roleOf (g .n) d
-
-        v : ℕ
-        v = column g t i x
-
-        at : (r : ℕ) → r < g .n + 2 → Dec (r ≡ x) → column g t i r ≡ put x v (column g s i) r
-        at r hr (yes e) = rw e (sym (put-same x v (column g s i)))
-        at r hr (no n) = others r hr n ∙ sym (put-other x v (column g s i) r n)
+        ∙ verdict-right (g .n) few (column g s i) (column g t i) (columns-symbols g s hs i) (columns-symbols g t ht i) h d known others changed
 
     pub check-unchanged : SameColumn g i t s → getD (afterCheck g t room) i 0 ≡ 0
     check-unchanged same =

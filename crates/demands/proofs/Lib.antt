@@ -6,4 +6,5 @@ pub mod Demand3
 pub mod Demand2
 pub mod Checks
 pub mod Called
+pub mod Summaries
 pub mod Witnesses

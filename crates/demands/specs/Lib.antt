@@ -3,3 +3,4 @@ pub mod Series
 pub mod Members
 pub mod Demand2
 pub mod Called
+pub mod Summary

@@ -105,6 +105,16 @@ fn checking() {
         b"verdict 17",
         verdict([1, 2, 4, 6, 0x17]),
     );
+    row(
+        b"check n=8: column 5 disk 2, column 9 disk 7",
+        b"summary 4",
+        summary_with(79),
+    );
+    row(
+        b"check n=8: column 5 disk 2, column 9 disk 2",
+        b"summary 18",
+        summary_with(29),
+    );
 }
 
 fn judging() {
@@ -264,7 +274,21 @@ fn verdict(s: [u8; 5]) -> [u8; 17] {
     let mut verdicts = [0u16; 1];
     match stripe::check(Geometry { n: 3, b: 1 }, &s, &mut verdicts) {
         Checked::Refused(n) => refusal(n),
-        Checked::Summary(_) => verdict_text(verdicts[0]),
+        Checked::Summary(_) => numbered(*b"verdict          ", verdicts[0]),
+    }
+}
+
+// Eight disks of ten bytes, all 00 but column 5 of disk 2 and one place more.
+fn summary_with(place: usize) -> [u8; 17]
+    requires { ⌜ place < 100 ⌝ }
+{
+    let mut s = [0u8; 100];
+    s[25] = 1;
+    s[place] = 1;
+    let mut verdicts = [0u16; 10];
+    match stripe::check(Geometry { n: 8, b: 10 }, &s, &mut verdicts) {
+        Checked::Refused(n) => refusal(n),
+        Checked::Summary(v) => numbered(*b"summary          ", v),
     }
 }
 
@@ -308,19 +332,16 @@ fn parities(p: u8, q: u8) -> [u8; 17] {
 }
 
 fn refusal(number: u8) -> [u8; 17] {
-    let n = number as usize;
-    if n < 10 {
-        return with_digit(*b"refusal .        ", 8, n);
-    }
-    with_digit(with_digit(*b"refusal ..       ", 8, n / 10), 9, n)
+    numbered(*b"refusal          ", number as u16)
 }
 
-fn verdict_text(verdict: u16) -> [u8; 17] {
-    let v = verdict as usize;
-    if v < 10 {
-        return with_digit(*b"verdict .        ", 8, v);
+// The text with a number of one or two digits behind its first word.
+fn numbered(text: [u8; 17], number: u16) -> [u8; 17] {
+    let n = number as usize;
+    if n < 10 {
+        return with_digit(text, 8, n);
     }
-    with_digit(with_digit(*b"verdict ..       ", 8, v / 10), 9, v)
+    with_digit(with_digit(text, 8, n / 10), 9, n)
 }
 
 fn finding(judgement: Judgement) -> [u8; 17] {

@@ -8,7 +8,8 @@ use plans::Asked;
 use shape::Geometry;
 ghost use Rattle.stripe.specs.Calls.{EncodeCall, RebuildCall, RebuildNamedCall, CheckCall};
 
-// What a check answers: a refusal's number, or the first verdict that isn't 0, or 0.
+// What a check answers: a refusal's number, or the summary of the verdicts: 0 if all columns are clean,
+// the common verdict if all unclean ones agree, and 4, mixed, otherwise.
 pub enum Checked {
     Refused(u8),
     Summary(u16),
@@ -49,8 +50,8 @@ pub fn rebuild_named(g: Geometry, stripe: &mut [u8], first: usize, second: usize
     }
 }
 
-// Compares the stored parities with those that the data give: a verdict for each column, and the
-// first that isn't 0.
+// Compares the stored parities with those that the data give: a verdict for each column, and their
+// summary.
 pub fn check(g: Geometry, stripe: &[u8], verdicts: &mut [u16]) -> Checked
     ensures { λ r. ⌜ CheckCall g (now (stripe .entry)) (now (verdicts .entry)) r (now (verdicts .exit)) ⌝ }
 {

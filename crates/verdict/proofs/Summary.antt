@@ -3,48 +3,76 @@
 -- more, a part over some of them, and all.
 -- Assumes nothing.
 use mathlib.Core.Path.{_≡_, refl, sym, ap, ap₂, _∙_, subst}
-use mathlib.Core.Bool.{Bool, true, false}
+use mathlib.Core.Logic.{_≢_, _⊎_, inl, inr, ⊎-elim}
 use mathlib.Core.List.{List, [], _∷_, _++_}
 use Prim.Native.Nat.{ℕ, zero, suc, _+_, _-_, _≤_, _<_}
-use native.Mathlib.Nat.{add-zero, le-refl}
+use native.Mathlib.Nat.{add-zero, le-refl, suc-ne-zero}
+use native.Mathlib.Decide.{ℕ-discrete}
 use native.Mathlib.Omega.{arith}
-use borrow.Author.Tests.{eqb-true}
-use lib.Dec.{eqb}
+use borrow.Author.Tests.{eq-eqb, ne-eqb}
 use lib.ListN.{length, set, take, drop}
-use Rattle.base.specs.Choice.{choose}
 use Rattle.base.specs.Table.{tabulate}
 use Rattle.base.proofs.Table.{tabulate-split}
 use Rattle.base.proofs.Fill.{Filled, fill-none, fill-more, fill-over, fill-all}
-use Rattle.verdict.specs.Summary.{joined, summary, WithSummary}
+use Rattle.verdict.specs.Summary.{mixed, joined, summary, WithSummary}
 
--- ---- what is known of `joined`: all else rests on these four
-joined-left : (b : ℕ) → joined 0 b ≡ b
+-- ---- what is known of `joined`: 0 adds nothing, two that agree give what they agree on, and two others give 4, to which nothing adds
+pub joined-left : (b : ℕ) → joined 0 b ≡ b
 unfolding joined
 joined-left b = refl
 
-joined-right : (a : ℕ) → joined a 0 ≡ a
+pub joined-right : (a : ℕ) → joined a 0 ≡ a
 unfolding joined
-joined-right a = go (eqb a 0) refl
+joined-right zero = refl
+joined-right (suc a) = refl
+
+pub joined-same : (a : ℕ) → joined a a ≡ a
+unfolding joined
+joined-same zero = refl
+joined-same (suc a) = rw (eq-eqb (suc a) (suc a) refl)
+
+pub joined-differ : (a b : ℕ) → a ≢ 0 → b ≢ 0 → a ≢ b → joined a b ≡ mixed
+unfolding joined
+joined-differ zero b ha hb n = absurd (ha refl)
+joined-differ (suc a) zero ha hb n = absurd (hb refl)
+joined-differ (suc a) (suc b) ha hb n = rw (ne-eqb (suc a) (suc b) n)
+
+-- what it is, seen from the first
+pub joined-over : (a b : ℕ) → (a ≡ 0) ⊎ (joined a b ≡ a) ⊎ (joined a b ≡ mixed)
+joined-over a b = go (ℕ-discrete a 0) (ℕ-discrete b 0) (ℕ-discrete a b)
   where
-    go : (t : Bool) → eqb a 0 ≡ t → choose t 0 a ≡ a
-    go true e = sym (eqb-true a 0 e)
-    go false e = refl
+    go : Dec (a ≡ 0) → Dec (b ≡ 0) → Dec (a ≡ b) → (a ≡ 0) ⊎ (joined a b ≡ a) ⊎ (joined a b ≡ mixed)
+    go (yes e) db d = inl e
+    go (no x) (yes e) d = inr (inl (rw e (joined-right a)))
+    go (no x) (no y) (yes e) = inr (inl (rw (← e) (joined-same a)))
+    go (no x) (no y) (no n) = inr (inr (joined-differ a b x y n))
+
+pub joined-comm : (a b : ℕ) → joined a b ≡ joined b a
+joined-comm a b = go (ℕ-discrete a 0) (ℕ-discrete b 0) (ℕ-discrete a b)
+  where
+    go : Dec (a ≡ 0) → Dec (b ≡ 0) → Dec (a ≡ b) → joined a b ≡ joined b a
+    go (yes e) db d = simp (e, joined-left, joined-right)
+    go (no x) (yes e) d = simp (e, joined-left, joined-right)
+    go (no x) (no y) (yes e) = simp e
+    go (no x) (no y) (no n) = joined-differ a b x y n ∙ sym (joined-differ b a y x (λ e. n (sym e)))
+
+mixed-left : (b : ℕ) → joined mixed b ≡ mixed
+mixed-left b = ⊎-elim (λ e. absurd (suc-ne-zero 3 e)) (⊎-elim (λ e. e) (λ e. e)) (joined-over mixed b)
+
+pub mixed-right : (a : ℕ) → joined a mixed ≡ mixed
+mixed-right a = joined-comm a mixed ∙ mixed-left a
 
 joined-assoc : (a b c : ℕ) → joined (joined a b) c ≡ joined a (joined b c)
-unfolding joined
-joined-assoc a b c = go (eqb a 0) refl
+joined-assoc a b c = go (ℕ-discrete a 0) (ℕ-discrete b 0) (ℕ-discrete c 0) (ℕ-discrete a b) (ℕ-discrete b c)
   where
-    go : (t : Bool) → eqb a 0 ≡ t → choose (eqb (choose t b a) 0) c (choose t b a) ≡ choose t (choose (eqb b 0) c b) a
-    go true e = refl
-    go false e = rw e
-
-joined-same : (a : ℕ) → joined a a ≡ a
-unfolding joined
-joined-same a = go (eqb a 0)
-  where
-    go : (t : Bool) → choose t a a ≡ a
-    go true = refl
-    go false = refl
+    go : Dec (a ≡ 0) → Dec (b ≡ 0) → Dec (c ≡ 0) → Dec (a ≡ b) → Dec (b ≡ c) → joined (joined a b) c ≡ joined a (joined b c)
+    go (yes e) db dc d f = simp (e, joined-left)
+    go (no x) (yes e) dc d f = simp (e, joined-left, joined-right)
+    go (no x) (no y) (yes e) d f = simp (e, joined-right)
+    go (no x) (no y) (no z) (yes e) (yes f) = simp (e, f, joined-same)
+    go (no x) (no y) (no z) (yes e) (no n) = simp (e, joined-same, joined-differ b c y z n, mixed-right)
+    go (no x) (no y) (no z) (no n) (yes f) = simp (← f, joined-same, joined-differ a b x y n, mixed-left)
+    go (no x) (no y) (no z) (no n) (no m) = simp (joined-differ a b x y n, joined-differ b c y z m, mixed-left, mixed-right)
 
 -- ---- the summary
 pub summary-append : (a b : List ℕ) → summary (a ++ b) ≡ joined (summary a) (summary b)

@@ -1,13 +1,19 @@
--- The summary of the verdicts on a stretch of columns: the first that isn't 0, or 0 where all are clean.
-use Prim.Native.Nat.{ℕ}
+-- The summary of the verdicts on a stretch of columns (2026-01): 0 if all are clean, the common verdict if all unclean ones agree, and 4 otherwise.
+use Prim.Native.Nat.{ℕ, zero, suc}
 use mathlib.Core.Path.{_≡_}
 use mathlib.Core.List.{List, [], _∷_}
 use lib.Dec.{eqb}
 use Rattle.base.specs.Choice.{choose}
 
--- the summary of two stretches, one after the other, from their summaries
+-- document 02's word for unclean columns that do not agree; no verdict on a column is 4
+abbrev pub mixed : ℕ
+mixed = 4
+
+-- the summary of two stretches, one after the other, from their summaries: a clean one adds nothing
 unfoldable pub joined : ℕ → ℕ → ℕ
-joined found next = choose (eqb found 0) next found
+joined zero next = next
+joined (suc f) zero = suc f
+joined (suc f) (suc n) = choose (eqb (suc f) (suc n)) (suc f) mixed
 
 unfoldable pub summary : List ℕ → ℕ
 summary [] = 0

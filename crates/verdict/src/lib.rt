@@ -47,11 +47,20 @@ fn never() -> u16
     loop {}
 }
 
+// The summary where unclean columns do not agree.
+pub const MIXED: u16 = 4;
+
 // The summary of two stretches of columns from their summaries.
 pub fn joined(found: u16, next: u16) -> u16
     ensures { λ r. ⌜ r ≡ joined found next ⌝ }
 {
-    if found == 0 { next } else { found }
+    if found == 0 {
+        return next;
+    }
+    if next == 0 {
+        return found;
+    }
+    if found == next { found } else { MIXED }
 }
 
 // The verdicts on the columns of a chunk whose P* and Q* are p and q, one for each place of the

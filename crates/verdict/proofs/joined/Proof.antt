@@ -1,17 +1,23 @@
--- `verdict::joined` meets its contract, by the test.
+-- `verdict::joined` meets its contract: each answer is a law of the definition's.
 -- Assumes nothing.
-use borrow.Author.Tests.{eq-eqb, ne-eqb}
-use Rattle.verdict.specs.Summary.{joined}
+use mathlib.Core.Path.{sym}
+use Rattle.verdict.proofs.Summary.{joined-left, joined-right, joined-same, joined-differ}
 use Rattle.verdict.proofs.joined.Statement.{statement}
 use Rattle.verdict.proofs.joined.Tie as tie
 
 returns : tie.Need-returns
-unfolding joined
-returns c = rw (eq-eqb _ _ (c .if1 .taken))
+returns c = rw (c .if1 .taken) (sym (joined-left (c .before .args .next)))
 
 returns-2 : tie.Need-returns-2
-unfolding joined
-returns-2 c = rw (ne-eqb _ _ (c .if1 .left))
+returns-2 c = rw (c .if2 .taken) (sym (joined-right (c .before .before .args .found)))
+
+returns-3 : tie.Need-returns-3
+returns-3 c = rw (← c .if3 .taken) (sym (joined-same (c .before .before .before .args .found)))
+
+returns-4 : tie.Need-returns-4
+returns-4 c =
+    let a = c .before .before .before .args in
+    sym (joined-differ (a .found) (a .next) (c .before .before .if1 .left) (c .before .if2 .left) (c .if3 .left))
 
 pub joined-spec : {M : Type 1} → statement M
-joined-spec = tie.close (tie.spec returns returns-2)
+joined-spec = tie.close (tie.spec returns returns-2 returns-3 returns-4)
