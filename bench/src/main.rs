@@ -57,8 +57,7 @@ fn two_disks(n: usize) -> (u64, u64) {
 fn verify_check(mut stripe: Stripe) {
     let (n, b) = (stripe.n as u64, stripe.b as u64);
     let wanted = stripe::check(n, b, stripe.bytes()).expect("a stripe has its length");
-    let first = wanted.iter().copied().find(|&verdict| verdict != 0);
-    let right = stripe.check() == first.unwrap_or(0) && stripe.verdicts() == wanted;
+    let right = stripe.check() == stripe::summary(&wanted) && stripe.verdicts() == wanted;
     assert!(right, "check is wrong; n {n}, B {b}");
 }
 

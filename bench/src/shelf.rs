@@ -86,7 +86,7 @@ impl Stripe {
         self.done(unsafe { shelf_write(n, b, self.start, self.length(), disk, 0, bytes.as_ptr(), bytes.len()) });
     }
 
-    /// The first verdict that isn't 0, or 0.
+    /// The summary of the verdicts.
     pub fn check(&self) -> u16 {
         let result = unsafe { bench_check(self.n as u64, self.b as u64, self.start, self.length(), self.room, self.b) };
         assert!(result < REFUSAL, "refused; n {}, B {}", self.n, self.b);

@@ -6,10 +6,10 @@ use Rattle.verdict.proofs.joined.Statement.{statement}
 use Rattle.verdict.proofs.joined.Tie as tie
 
 returns : tie.Need-returns
-returns c = rw (c .if1 .taken) (sym (joined-left (c .before .args .next)))
+returns c = rw (c .if1 .taken) (sym (joined-right (c .before .args .found)))
 
 returns-2 : tie.Need-returns-2
-returns-2 c = rw (c .if2 .taken) (sym (joined-right (c .before .before .args .found)))
+returns-2 c = rw (c .if2 .taken) (sym (joined-left (c .before .before .args .next)))
 
 returns-3 : tie.Need-returns-3
 returns-3 c = rw (← c .if3 .taken) (sym (joined-same (c .before .before .before .args .found)))
@@ -17,7 +17,7 @@ returns-3 c = rw (← c .if3 .taken) (sym (joined-same (c .before .before .befor
 returns-4 : tie.Need-returns-4
 returns-4 c =
     let a = c .before .before .before .args in
-    sym (joined-differ (a .found) (a .next) (c .before .before .if1 .left) (c .before .if2 .left) (c .if3 .left))
+    sym (joined-differ (a .found) (a .next) (c .before .if2 .left) (c .before .before .if1 .left) (c .if3 .left))
 
 pub joined-spec : {M : Type 1} → statement M
 joined-spec = tie.close (tie.spec returns returns-2 returns-3 returns-4)
