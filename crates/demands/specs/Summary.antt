@@ -8,7 +8,6 @@ use Rattle.column.specs.declared.Lost.the-variants.{One}
 use Rattle.column.specs.Column.{reedSolomon}
 use Rattle.column.specs.Loss.{KnownLoss}
 use Rattle.shape.specs.declared.Geometry.{Geometry}
-use Rattle.verdict.specs.Summary.{mixed}
 use Rattle.verdict.specs.Agreement.{Agree, Differ}
 use Rattle.demands.specs.Layout.{layoutOf}
 use Rattle.demands.specs.Series.{EncodedStripe}
@@ -20,9 +19,9 @@ pub record Summarizes (g : Geometry) (t vs : List ℕ) (v : ℕ) : Type 0 where
   -- it is 0 exactly where the stripe is encoded
   pub clean : (v ≡ 0) ↔ EncodedStripe (layoutOf g) reedSolomon t
   -- it is u, other than 0 and 4, exactly where some column's verdict is u and every other column's is 0 or u
-  pub agree : (u : ℕ) → u ≢ 0 → u ≢ mixed → (v ≡ u) ↔ Agree u vs
+  pub agree : (u : ℕ) → u ≢ 0 → u ≢ 4 → (v ≡ u) ↔ Agree u vs
   -- it is 4 exactly where two columns have different verdicts other than 0
-  pub differ : (v ≡ mixed) ↔ Differ vs
+  pub differ : (v ≡ 4) ↔ Differ vs
   -- Where a stripe s was encoded and at most one device has changed since, on any columns and to any bytes, it is 0 where nothing changed, and
   -- names that device otherwise.
   pub right : (s : List ℕ) → Slice s → EncodedStripe (layoutOf g) reedSolomon s → (d : Device) → KnownLoss (g .n) (One d) → Loses g (One d) s t
