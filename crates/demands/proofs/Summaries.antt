@@ -1,5 +1,5 @@
 -- The summary tells what `Summarizes` says, of every stripe and so of every check that is done: the laws of `Agreement` at the verdicts of the
--- stripe. Where one device has changed, each verdict is 0 or names it, and so is the summary.
+-- stripe. Where one device has changed, every verdict is 0 or names it, so the summary is 0 or names it too.
 -- Assumes nothing.
 use mathlib.Core.Path.{_≡_, refl, sym, subst, _∙_}
 use mathlib.Core.Logic.{_≢_, _↔_, _⊎_, inl, inr, ⊎-elim, ⊎-map}

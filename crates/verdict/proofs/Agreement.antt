@@ -1,6 +1,6 @@
 -- What a summary says of the verdicts, and what the verdicts say of it: 0 exactly where all are 0; v, neither 0 nor 4, exactly where one is v and
 -- each is 0 or v; and, as no verdict is 4, 4 exactly where two other than 0 differ. Three inductions: the summary of verdicts 0 or v is 0 or v;
--- it is each verdict but 0, or 4; and where not all are 0 or v, there is one that is neither.
+-- one other than 4 equals each verdict other than 0; and where not all verdicts are 0 or v, there is one that is neither.
 -- Assumes nothing.
 use mathlib.Core.Path.{_≡_, refl, sym, _∙_}
 use mathlib.Core.Logic.{_≢_, _↔_, _⊎_, inl, inr, ⊎-elim}
@@ -67,7 +67,7 @@ module _ (vs : List ℕ) where
   other-than v n m =
       ⊎-elim (λ o. o) (λ each. ⊎-elim (λ e. absurd (n e)) (λ e. absurd (m e)) (summary-clean-or v vs each)) (other-or v vs)
 
-  -- a summary that isn't 4 is each verdict that isn't 0
+  -- a summary other than 4 equals each verdict other than 0
   summary-each : summary vs ≢ mixed → CleanOr (summary vs) vs
   summary-each n i h = ⊎-elim inl (⊎-elim (λ e. inr (sym e)) (λ e. absurd (n e))) (summary-over vs i)
 
