@@ -50,6 +50,13 @@ verdict-right n few c e hc he h d known others changed =
     named P known changed byte = verdict-p n few c hc h (e n) byte changed
     named Q known changed byte = verdict-q n few c hc h (e (n + 1)) byte changed
 
+-- and where it differs on none, it is 0
+pub verdict-unchanged : (n : ℕ) → n ≤ 255 → (c e : Column) → Encoded reedSolomon n c → ((r : ℕ) → r < n + 2 → e r ≡ c r) → verdict n e ≡ 0
+verdict-unchanged n few c e h same = verdict-local n e c same ∙ verdict-zero n few c .1 h
+
+pub verdict-at : (g : Geometry) (t : List ℕ) (i : ℕ) → i < g .b → getD (verdicts g t) i 0 ≡ verdict (g .n) (column g t i)
+verdict-at g t i hi = getD-tabulate (g .b) (λ i. verdict (g .n) (column g t i)) i 0 hi
+
 module _ (g : Geometry) (t room : List ℕ) (accepted : checkRefusal g (length t) (length room) ≡ 0) (i : ℕ) (hi : i < g .b) where
   few : g .n ≤ 255
   few = well-shaped g t (check-accepted g (length t) (length room) accepted .0) .disks
@@ -59,7 +66,7 @@ module _ (g : Geometry) (t room : List ℕ) (accepted : checkRefusal g (length t
   unfolding afterCheck
   after-check =
       ap (λ (l : List ℕ). getD l i 0) (left-done (checkRefusal g (length t) (length room)) (verdicts g t) room accepted)
-      ∙ getD-tabulate (g .b) (λ i. verdict (g .n) (column g t i)) i 0 hi
+      ∙ verdict-at g t i hi
 
   -- 0 exactly where both equations hold
   pub check-clean : (getD (afterCheck g t room) i 0 ≡ 0) ↔ Encoded reedSolomon (g .n) (column g t i)
@@ -78,8 +85,7 @@ module _ (g : Geometry) (t room : List ℕ) (accepted : checkRefusal g (length t
         ∙ verdict-right (g .n) few (column g s i) (column g t i) (columns-symbols g s hs i) (columns-symbols g t ht i) h d known others changed
 
     pub check-unchanged : SameColumn g i t s → getD (afterCheck g t room) i 0 ≡ 0
-    check-unchanged same =
-        after-check ∙ verdict-local (g .n) (column g t i) (column g s i) same ∙ verdict-zero (g .n) few (column g s i) .1 h
+    check-unchanged same = after-check ∙ verdict-unchanged (g .n) few (column g s i) (column g t i) h same
 
 -- verdict i depends on column i alone
 pub check-local : (g : Geometry) (s t room other : List ℕ) → checkRefusal g (length s) (length room) ≡ 0 → checkRefusal g (length t) (length other) ≡ 0

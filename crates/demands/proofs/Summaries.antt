@@ -10,13 +10,13 @@ use native.Mathlib.Omega.{arith}
 use native.Mathlib.Decide.{ℕ-discrete}
 use lib.ListN.{length, getD}
 use Rattle.base.proofs.Refused.{left-done}
-use Rattle.base.proofs.Table.{length-tabulate, getD-tabulate}
+use Rattle.base.proofs.Table.{length-tabulate}
 use Rattle.column.specs.declared.Device.{Device}
 use Rattle.column.specs.declared.Device.the-variants.{Data, P, Q}
 use Rattle.column.specs.declared.Lost.the-variants.{One}
 use Rattle.column.specs.Column.{roleOf, reedSolomon, verdict}
 use Rattle.column.specs.Loss.{KnownLoss}
-use Rattle.column.proofs.Verdicts.{verdict-zero, verdict-local, verdict-known}
+use Rattle.column.proofs.Verdicts.{verdict-zero, verdict-known}
 use Rattle.column.proofs.Witnesses.{one-or-spared}
 use Rattle.shape.specs.declared.Geometry.{Geometry}
 use Rattle.shape.specs.Layout.{column}
@@ -35,7 +35,7 @@ use Rattle.demands.specs.Demand2.{SameColumn, rightVerdict}
 use Rattle.demands.specs.Called.{Slice, Loses}
 use Rattle.demands.specs.Summary.{Summarizes}
 use Rattle.demands.proofs.Bytes.{columns-symbols}
-use Rattle.demands.proofs.Checks.{verdict-right}
+use Rattle.demands.proofs.Checks.{verdict-right, verdict-unchanged, verdict-at}
 use Rattle.demands.proofs.Called.{slice-bytes}
 
 right-nonzero : (d : Device) → rightVerdict d ≢ 0
@@ -50,20 +50,17 @@ module _ (g : Geometry) (t : List ℕ) (shaped : WellShaped g t) where
   long : length vs ≡ g .b
   long = length-tabulate (g .b) (λ i. verdict (g .n) (column g t i))
 
-  verdict-at : (i : ℕ) → i < g .b → getD vs i 0 ≡ verdict (g .n) (column g t i)
-  verdict-at i hi = getD-tabulate (g .b) (λ i. verdict (g .n) (column g t i)) i 0 hi
-
   clean : (summary vs ≡ 0) ↔ EncodedStripe (layoutOf g) reedSolomon t
   clean = (
-    λ e i hi. verdict-zero (g .n) (shaped .disks) (column g t i) .0 (sym (verdict-at i hi) ∙ summary-clean vs .0 e i (omega (arith, long))),
+    λ e i hi. verdict-zero (g .n) (shaped .disks) (column g t i) .0 (sym (verdict-at g t i hi) ∙ summary-clean vs .0 e i (omega (arith, long))),
     λ h. summary-clean vs .1
         (λ i hi.
-        let k : i < g .b = omega (arith, long) in verdict-at i k ∙ verdict-zero (g .n) (shaped .disks) (column g t i) .1 (h i k)),
+        let k : i < g .b = omega (arith, long) in verdict-at g t i k ∙ verdict-zero (g .n) (shaped .disks) (column g t i) .1 (h i k)),
   )
 
   never-mixed : (i : ℕ) → i < length vs → getD vs i 0 ≢ mixed
   never-mixed i hi e =
-      let v = sym (verdict-at i (omega (arith, long))) ∙ e in
+      let v = sym (verdict-at g t i (omega (arith, long))) ∙ e in
       ⊎-elim (λ few. absurd (omega arith)) (λ disk. absurd (omega (arith, disk .0))) (verdict-known (g .n) (column g t i))
 
   module _ (s : List ℕ) (slice : Slice s) (encoded : EncodedStripe (layoutOf g) reedSolomon s) (d : Device) (known : KnownLoss (g .n) (One d))
@@ -81,13 +78,12 @@ module _ (g : Geometry) (t : List ℕ) (shaped : WellShaped g t) where
         go : Dec (column g t i x ≡ column g s i x) → (SameColumn g i t s × (getD vs i 0 ≡ 0)) ⊎ (getD vs i 0 ≡ rightVerdict d)
         go (yes e) =
             let same = same-column i hi e in
-            let was = verdict-zero (g .n) (shaped .disks) (column g s i) .1 (encoded i hi) in
-            inl (same, verdict-at i hi ∙ verdict-local (g .n) (column g t i) (column g s i) same ∙ was)
+            inl (same, verdict-at g t i hi ∙ verdict-unchanged (g .n) (shaped .disks) (column g s i) (column g t i) (encoded i hi) same)
         go (no n) =
             let before = columns-symbols g s (slice-bytes s slice) i in
             let after = columns-symbols g t (slice-bytes t (changes .bytes)) i in
             inr
-            (verdict-at i hi
+            (verdict-at g t i hi
             ∙ verdict-right (g .n) (shaped .disks) (column g s i) (column g t i) before after (encoded i hi) d known
             (λ r. changes .spared i r hi) n)
 
