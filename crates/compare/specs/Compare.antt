@@ -10,12 +10,16 @@ use Rattle.base.specs.Table.{tabulate}
 use Rattle.column.specs.Column.{verdict}
 use Rattle.shape.specs.declared.Geometry.{Geometry}
 use Rattle.shape.specs.Layout.{column}
-use Rattle.shape.specs.Refusals.{checkRefusal}
+use Rattle.shape.specs.Refusals.{encodeRefusal, checkRefusal}
 use Rattle.verdict.specs.Summary.{summary}
 
 -- the verdict on every column
 abbrev pub verdicts : Geometry → List ℕ → List ℕ
 verdicts g s = tabulate (g .b) (λ i. verdict (g .n) (column g s i))
+
+-- the summary without room for verdicts; 0 where the stripe is none
+abbrev pub summaryOf : Geometry → List ℕ → ℕ
+summaryOf g s = choose (eqb (encodeRefusal g (length s)) 0) (summary (verdicts g s)) 0
 
 -- the verdict buffer after a check
 unfoldable pub afterCheck : Geometry → List ℕ → List ℕ → List ℕ
