@@ -1,6 +1,7 @@
 -- What a check finds: the verdict on every column, and their summary.
-use Prim.Native.Nat.{ℕ}
+use Prim.Native.Nat.{ℕ, _≤_}
 use mathlib.Core.Path.{_≡_}
+use mathlib.Core.Bool.{Bool, true, false}
 use mathlib.Core.List.{List}
 use lib.Dec.{eqb}
 use lib.ListN.{length}
@@ -11,6 +12,7 @@ use Rattle.column.specs.Column.{verdict}
 use Rattle.shape.specs.declared.Geometry.{Geometry}
 use Rattle.shape.specs.Layout.{column}
 use Rattle.shape.specs.Refusals.{encodeRefusal, checkRefusal}
+use Rattle.sums.specs.Strip.{strip}
 use Rattle.verdict.specs.Summary.{summary}
 
 -- the verdict on every column
@@ -32,3 +34,13 @@ found g s room = choose (eqb (checkRefusal g (length s) (length room)) 0) (summa
 pub record CompareCall (g : Geometry) (s before : List ℕ) (r : ℕ) (after : List ℕ) : Type 0 where
   pub result : r ≡ found g s before
   pub room : after ≡ afterCheck g s before
+
+-- ---- what private functions suppose and promise; no public contract rests on the rest
+-- the room has a place for each verdict, if they are kept, and else for those of a stretch
+pub record RoomFor (g : Geometry) (keep : Bool) (room : List ℕ) : Type 0 where
+  pub whole : keep ≡ true → length room ≡ g .b
+  pub scratch : keep ≡ false → strip ≤ length room
+
+pub record Checked (g : Geometry) (s : List ℕ) (keep : Bool) (r : ℕ) (after : List ℕ) : Type 0 where
+  pub result : r ≡ summary (verdicts g s)
+  pub room : keep ≡ true → after ≡ verdicts g s

@@ -7,6 +7,7 @@ use sums::STRIP;
 ghost use mathlib.Core.Path.{_≡_};
 ghost use Prim.Native.Nat.{_+_, _≤_};
 ghost use lib.ListN.{length};
+ghost use Rattle.base.specs.Choice.{choose};
 ghost use Rattle.base.specs.Table.{tabulate};
 ghost use Rattle.column.specs.Column.{verdict};
 ghost use Rattle.chunk.specs.Chunk.{width};
@@ -15,7 +16,7 @@ ghost use Rattle.shape.specs.Refusals.{WellShaped};
 ghost use Rattle.stretch.specs.Stretch.{Has};
 ghost use Rattle.sums.specs.Strip.{strip, HasStrip};
 ghost use Rattle.verdict.specs.Summary.{WithSummary};
-ghost use Rattle.compare.specs.Compare.{verdicts, CompareCall};
+ghost use Rattle.compare.specs.Compare.{summaryOf, CompareCall, RoomFor, Checked};
 
 // Fills the room with the verdicts and answers their summary. Where a check is refused: 0, and the room stays.
 pub fn compare(g: Geometry, stripe: &[u8], room: &mut [u16]) -> u16
@@ -24,23 +25,50 @@ pub fn compare(g: Geometry, stripe: &[u8], room: &mut [u16]) -> u16
     if shape::check_refusal(g, stripe.len(), room.len()) != 0 {
         return 0;
     }
+    check_into(g, stripe, room, true)
+}
+
+// The summary alone: the verdicts are kept nowhere. 0 where the stripe is none.
+pub fn summary_of(g: Geometry, stripe: &[u8]) -> u16
+    ensures { λ r. ⌜ r ≡ summaryOf g (now (stripe .entry)) ⌝ }
+{
+    if shape::encode_refusal(g, stripe.len()) != 0 {
+        return 0;
+    }
+    let mut room = [0u16; STRIP];
+    check_into(g, stripe, &mut room, false)
+}
+
+// Where the verdicts are not kept, those of a stretch go over those of the one before.
+fn check_into(g: Geometry, stripe: &[u8], room: &mut [u16], keep: bool) -> u16
+    requires { ⌜ WellShaped g (now stripe) × RoomFor g keep (now room) ⌝ }
+    ensures { λ r. ⌜ Checked g (now (stripe .entry)) keep r (now (room .exit)) ⌝ }
+{
     if sums::in_strips(g) {
-        check_strips(g, stripe, room)
+        check_strips(g, stripe, room, keep)
     } else {
-        check_columns(g, stripe, room)
+        check_columns(g, stripe, room, keep)
     }
 }
 
+// Where in the room the verdicts from column i on go.
+fn place(i: usize, keep: bool) -> usize
+    ensures { λ r. ⌜ r ≡ choose keep i 0 ⌝ }
+{
+    if keep { i } else { 0 }
+}
+
 // By whole strips, of which the last may take columns again: their verdicts are the same.
-fn check_strips(g: Geometry, stripe: &[u8], room: &mut [u16]) -> u16
-    requires { ⌜ WellShaped g (now stripe) × (strip ≤ g .b) × (length (now room) ≡ g .b) ⌝ }
-    ensures { λ r. ⌜ WithSummary (verdicts g (now (stripe .entry))) r (now (room .exit)) ⌝ }
+fn check_strips(g: Geometry, stripe: &[u8], room: &mut [u16], keep: bool) -> u16
+    requires { ⌜ WellShaped g (now stripe) × (strip ≤ g .b) × RoomFor g keep (now room) ⌝ }
+    ensures { λ r. ⌜ Checked g (now (stripe .entry)) keep r (now (room .exit)) ⌝ }
 {
     let mut found = 0;
     let mut done = 0;
     while done < g.b {
         let i = stretch::next_start(g.b, STRIP, done);
-        found = verdict::joined(found, check_strip(g, stripe, i, &mut room[i..i + STRIP]));
+        let at = place(i, keep);
+        found = verdict::joined(found, check_strip(g, stripe, i, &mut room[at..at + STRIP]));
         done = i + STRIP;
     }
     found
@@ -68,18 +96,21 @@ fn check_strip(g: Geometry, stripe: &[u8], i: usize, room: &mut [u16]) -> u16
     found
 }
 
-fn check_columns(g: Geometry, stripe: &[u8], room: &mut [u16]) -> u16
-    requires { ⌜ WellShaped g (now stripe) × (length (now room) ≡ g .b) ⌝ }
-    ensures { λ r. ⌜ WithSummary (verdicts g (now (stripe .entry))) r (now (room .exit)) ⌝ }
+fn check_columns(g: Geometry, stripe: &[u8], room: &mut [u16], keep: bool) -> u16
+    requires { ⌜ WellShaped g (now stripe) × RoomFor g keep (now room) ⌝ }
+    ensures { λ r. ⌜ Checked g (now (stripe .entry)) keep r (now (room .exit)) ⌝ }
 {
     let mut found = 0;
     let mut i = 0;
     while WIDTH <= g.b - i {
-        found = verdict::joined(found, check_chunk(g, stripe, i, &mut room[i..i + WIDTH]));
+        let at = place(i, keep);
+        found = verdict::joined(found, check_chunk(g, stripe, i, &mut room[at..at + WIDTH]));
         i += WIDTH;
     }
     if i < g.b {
-        found = verdict::joined(found, check_part(g, stripe, i, &mut room[i..]));
+        let w = g.b - i;
+        let at = place(i, keep);
+        found = verdict::joined(found, check_part(g, stripe, i, &mut room[at..at + w]));
     }
     found
 }

@@ -1,6 +1,6 @@
 -- The summary of two stretches of columns is that of their summaries, since `joined` is associative, leaves out 0 and takes one summary twice as once.
--- So a loop that fills a list with verdicts and keeps their summary has five laws, as one that only fills: none filled, one place more, a part
--- more, a part over some of them, and all.
+-- So a loop that fills a list with verdicts and keeps their summary has four laws, as one that only fills: none filled, one place more, a part
+-- more, and all.
 -- Assumes nothing.
 use mathlib.Core.Path.{_≡_, refl, sym, ap, ap₂, _∙_, subst}
 use mathlib.Core.Logic.{_≢_, _⊎_, inl, inr, ⊎-elim}
@@ -13,7 +13,7 @@ use borrow.Author.Tests.{eq-eqb, ne-eqb}
 use lib.ListN.{length, set, take, drop}
 use Rattle.base.specs.Table.{tabulate}
 use Rattle.base.proofs.Table.{tabulate-split}
-use Rattle.base.proofs.Fill.{Filled, fill-none, fill-more, fill-over, fill-all}
+use Rattle.base.proofs.Fill.{Filled, fill-none, fill-more, fill-part, fill-all}
 use Rattle.verdict.specs.Summary.{mixed, joined, summary, WithSummary}
 
 -- ---- what is known of `joined`: 0 adds nothing, two that agree give what they agree on, and two others give 4, to which nothing adds
@@ -80,7 +80,7 @@ unfolding summary
 summary-append [] b = sym (joined-left (summary b))
 summary-append (v ∷ a) b = ap (joined v) (summary-append a b) ∙ sym (joined-assoc v (summary a) (summary b))
 
-summary-none : (f : ℕ → ℕ) → summary (tabulate 0 f) ≡ 0
+pub summary-none : (f : ℕ → ℕ) → summary (tabulate 0 f) ≡ 0
 unfolding tabulate summary
 summary-none f = refl
 
@@ -102,9 +102,9 @@ summary-split : (a b : ℕ) (f : ℕ → ℕ) → summary (tabulate (a + b) f) �
 summary-split a b f = ap summary (tabulate-split a b f) ∙ summary-append (tabulate a f) (tabulate b (λ j. f (a + j)))
 
 -- k columns from i on, of which those below c were summarized already
-summary-over : (f : ℕ → ℕ) (i k c : ℕ) {found v r : ℕ} → i ≤ c → c ≤ i + k → found ≡ summary (tabulate c f) → v ≡ summary (tabulate k (λ j. f (i + j))) → r ≡ joined found v
+pub summary-again : (f : ℕ → ℕ) (i k c : ℕ) {found v r : ℕ} → i ≤ c → c ≤ i + k → found ≡ summary (tabulate c f) → v ≡ summary (tabulate k (λ j. f (i + j))) → r ≡ joined found v
     → r ≡ summary (tabulate (i + k) f)
-summary-over f i k c begins reaches before after step =
+summary-again f i k c begins reaches before after step =
     let here : ℕ → ℕ = λ j. f (i + j) in
     let low = summary (tabulate i f) in
     let again = summary (tabulate (c - i) here) in
@@ -119,7 +119,7 @@ summary-over f i k c begins reaches before after step =
 -- one stretch more
 summary-more : (f : ℕ → ℕ) (i k : ℕ) {found v r : ℕ} → found ≡ summary (tabulate i f) → v ≡ summary (tabulate k (λ j. f (i + j))) → r ≡ joined found v
     → r ≡ summary (tabulate (i + k) f)
-summary-more f i k before after step = summary-over f i k i (le-refl i) (omega arith) before after step
+summary-more f i k before after step = summary-again f i k i (le-refl i) (omega arith) before after step
 
 module _ {f : ℕ → ℕ} {n : ℕ} {s : List ℕ} where
   pub summary-filled-none : length s ≡ n → FilledWithSummary f n s s 0 0
@@ -133,23 +133,13 @@ module _ {f : ℕ → ℕ} {n : ℕ} {s : List ℕ} where
         summarized = summary-more f i 1 (fill .summarized) (e ∙ sym (rw (summary-one, add-zero))) step;
       }
 
-  pub summary-filled-over : {t m rest : List ℕ} {c found v r : ℕ} (i k : ℕ) → FilledWithSummary f n s t c found → i ≤ c → c ≤ i + k → i + k ≤ n
-      → WithSummary (tabulate k (λ j. f (i + j))) v m
-      → rest ≡ drop (i + k) t
-      → r ≡ joined found v
-      → FilledWithSummary f n s (take i t ++ (m ++ rest)) (i + k) r
-  summary-filled-over {c = c} i k fill begins reaches h part after step =
-      record {
-        filled = fill-over i k (fill .filled) begins reaches h (part .room) after;
-        summarized = summary-over f i k c begins reaches (fill .summarized) (part .result) step;
-      }
-
   pub summary-filled-part : {t m rest : List ℕ} {i found v r : ℕ} (k : ℕ) → FilledWithSummary f n s t i found → i + k ≤ n
       → WithSummary (tabulate k (λ j. f (i + j))) v m
       → rest ≡ drop (i + k) t
       → r ≡ joined found v
       → FilledWithSummary f n s (take i t ++ (m ++ rest)) (i + k) r
-  summary-filled-part {i = i} k fill h part after step = summary-filled-over i k fill (le-refl i) (omega arith) h part after step
+  summary-filled-part {i = i} k fill h part after step =
+      record { filled = fill-part k (fill .filled) h (part .room) after; summarized = summary-more f i k (fill .summarized) (part .result) step }
 
   pub summary-filled-all : {t : List ℕ} {i found : ℕ} → FilledWithSummary f n s t i found → i ≡ n → WithSummary (tabulate n f) found t
   summary-filled-all fill all =
