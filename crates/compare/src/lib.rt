@@ -17,6 +17,7 @@ ghost use Rattle.stretch.specs.Stretch.{Has};
 ghost use Rattle.sums.specs.Strip.{strip, HasStrip};
 ghost use Rattle.verdict.specs.Summary.{WithSummary};
 ghost use Rattle.compare.specs.Compare.{summaryOf, CompareCall, RoomFor, Checked};
+ghost use Rattle.compare.specs.Repair.{unclear, repairRefusal};
 
 // Fills the room with the verdicts and answers their summary. Where a check is refused: 0, and the room stays.
 pub fn compare(g: Geometry, stripe: &[u8], room: &mut [u16]) -> u16
@@ -37,6 +38,30 @@ pub fn summary_of(g: Geometry, stripe: &[u8]) -> u16
     }
     let mut room = [0u16; STRIP];
     check_into(g, stripe, &mut room, false)
+}
+
+// 9 where a summary names no one device: 3 and 4.
+pub fn summary_refusal(summary: u16) -> u8
+    ensures { λ r. ⌜ r ≡ choose (unclear summary) 9 0 ⌝ }
+{
+    if summary == 3 {
+        return 9;
+    }
+    if summary == 4 {
+        return 9;
+    }
+    0
+}
+
+// 1 to 3 and 9. This refusal alone reads the bytes of a stripe.
+pub fn repair_refusal(g: Geometry, stripe: &[u8]) -> u8
+    ensures { λ r. ⌜ r ≡ repairRefusal g (now (stripe .entry)) ⌝ }
+{
+    let refused = shape::encode_refusal(g, stripe.len());
+    if refused != 0 {
+        return refused;
+    }
+    summary_refusal(summary_of(g, stripe))
 }
 
 // Where the verdicts are not kept, those of a stretch go over those of the one before.
