@@ -145,13 +145,9 @@ fn check_chunk(g: Geometry, stripe: &[u8], i: usize, room: &mut [u16]) -> u16
     requires { ⌜ Has g (now stripe) i width × (length (now room) ≡ width) ⌝ }
     ensures { λ r. ⌜ WithSummary (tabulate (length (now (room .entry))) (λ j. verdict (g .n) (column g (now (stripe .entry)) (i + j)))) r (now (room .exit)) ⌝ }
 {
-    let s = sums::parities(g, stripe, i);
-    let mut p = s.p;
-    let mut q = s.q;
-    let d = stretch::load(g, stripe, g.n, i, WIDTH);
-    chunk::add(&mut p, &d);
-    let d = stretch::load(g, stripe, g.n + 1, i, WIDTH);
-    chunk::add(&mut q, &d);
+    let s = sums::syndromes(g, stripe, i);
+    let p = s.p;
+    let q = s.q;
     verdict::verdicts_of(g.n, &p, &q, room)
 }
 

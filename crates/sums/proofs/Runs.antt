@@ -1,11 +1,13 @@
--- The disks of a group in three runs: above the higher of two lost ones, between both and below, each lost one as 00.
+-- All disks: the highest, and those below it. The disks of a group in three runs: above the higher of two lost ones, between both and below,
+-- each lost one as 00.
 -- Assumes nothing.
 use mathlib.Core.Path.{_≡_, ap, _∙_}
 use mathlib.Core.Logic.{_⊎_, inr, ⊎-elim}
 use mathlib.Core.List.{List}
-use Prim.Native.Nat.{ℕ, _+_, _≤_, _<_}
+use Prim.Native.Nat.{ℕ, _+_, _-_, _≤_, _<_}
 use native.Mathlib.Omega.{arith}
-use Rattle.chunk.specs.Chunk.{width}
+use lib.ListN.{getD, replicate}
+use Rattle.chunk.specs.Chunk.{width, each, plus, doublePlus}
 use Rattle.column.specs.Column.{Column}
 use Rattle.losses.specs.Losses.{without}
 use Rattle.losses.proofs.Without.{without-other, without-lost}
@@ -15,6 +17,16 @@ use Rattle.stretch.specs.Stretch.{Has, columnOf}
 use Rattle.stretch.proofs.Laws.{column-of}
 use Rattle.sums.specs.Sums.{Tails, DisksAdded, AddedAbove}
 use Rattle.sums.specs.Strip.{AddedWithin}
+use Rattle.sums.proofs.Horner.{tails-none, tails-more}
+
+pub all-added : {g : Geometry} {s : List ℕ} {i : ℕ} (d : List ℕ) {p q p′ q′ : List ℕ} → Has g s i width → d ≡ each (λ j. columnOf g s i width j (g .n - 1)) → ((j : ℕ) → getD d j 0 < 256)
+    → p ≡ plus (replicate width 0) d
+    → q ≡ doublePlus (replicate width 0) d
+    → DisksAdded g i 0 (g .n - 1) s p q p′ q′
+    → Tails (g .n) 0 (columnOf g s i width) p′ q′
+all-added {g} {s} {i} d h highest bytes is-p is-q below =
+    let f = columnOf g s i width in
+    below f (λ j k l low high. ap (λ (e : Column). e k) (column-of h j l)) (tails-more (g .n) f d (omega (arith, h .shaped .disk)) (omega arith) (tails-none (g .n) f) highest bytes is-p is-q)
 
 -- among all disks a lost one lies above none
 pub within-all : {g : Geometry} {i lost to : ℕ} {s p q : List ℕ} {r : ℕ} {p′ q′ : List ℕ} → AddedAbove g i lost to s p q r p′ q′ → AddedWithin g i lost 0 to s p q r p′ q′

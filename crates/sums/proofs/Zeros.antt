@@ -1,6 +1,6 @@
 -- The sums of columns of 00, which stand for those that a stripe has not.
 -- Assumes nothing.
-use mathlib.Core.Path.{_≡_, ap, ap₂, _∙_}
+use mathlib.Core.Path.{_≡_, refl, ap, ap₂, _∙_}
 use mathlib.Core.Bool.{false}
 use mathlib.Core.List.{List}
 use Prim.Native.Nat.{ℕ, _+_}
@@ -32,11 +32,18 @@ module _ (g : Geometry) (s : List ℕ) (i w : ℕ) (none : hasColumns g (length 
   pub no-parities : two (replicate width 0) (replicate width 0) ≡ paritiesOf n (columnOf g s i w)
   no-parities = ap₂ two (unseen g s i w none (parityP n) (total-zero n)) (unseen g s i w none (parityQ reedSolomon n) (parityQ-zero n))
 
+  -- of columns of 00 that a rule leaves so
+  sums-none : (h : Column → Column) → h zero ≡ zero → two (replicate width 0) (replicate width 0) ≡ sumsOf n (λ j. h (columnOf g s i w j))
+  sums-none h same =
+      ap₂ two (unseen g s i w none (λ c. syndromeP n (h c)) (ap (syndromeP n) same ∙ ap (sum 0) (total-zero n) ∙ sum-zero 0))
+      (unseen g s i w none (λ c. syndromeQ reedSolomon n (h c)) (ap (syndromeQ reedSolomon n) same ∙ ap (sum 0) (parityQ-zero n) ∙ sum-zero 0))
+
+  pub no-syndromes : two (replicate width 0) (replicate width 0) ≡ sumsOf n (columnOf g s i w)
+  no-syndromes = sums-none (λ c. c) refl
+
   module _ (x : ℕ) where
     pub no-sums : (y : ℕ) → two (replicate width 0) (replicate width 0) ≡ sumsOf n (λ j. without x y (columnOf g s i w j))
-    no-sums y =
-        ap₂ two (unseen g s i w none (λ c. syndromeP n (without x y c)) (ap (syndromeP n) (without-zero x y) ∙ ap (sum 0) (total-zero n) ∙ sum-zero 0))
-        (unseen g s i w none (λ c. syndromeQ reedSolomon n (without x y c)) (ap (syndromeQ reedSolomon n) (without-zero x y) ∙ ap (sum 0) (parityQ-zero n) ∙ sum-zero 0))
+    no-sums y = sums-none (without x y) (without-zero x y)
 
     pub no-sum : replicate width 0 ≡ each (λ j. byP n x (columnOf g s i w j))
     no-sum = unseen g s i w none (byP n x) (ap (total (n + 1)) (put-back x zero) ∙ total-zero (n + 1))

@@ -43,6 +43,26 @@ pub fn parities(g: Geometry, stripe: &[u8], i: usize) -> Sums
     Sums { p, q }
 }
 
+// P* and Q* of each column of a chunk: the parities that the data give, and the stored ones added. Apart from
+// `parities`, so that this one keeps one caller and is compiled into its loop.
+pub fn syndromes(g: Geometry, stripe: &[u8], i: usize) -> Sums
+    ensures { λ r. ⌜ r ≡ sumsOf (g .n) (columnOf g (now (stripe .entry)) i width) ⌝ }
+{
+    let mut p = [0u8; WIDTH];
+    let mut q = [0u8; WIDTH];
+    if stretch::has_columns(g, stripe.len(), i, WIDTH) {
+        let k = g.n - 1;
+        let d = stretch::load(g, stripe, k, i, WIDTH);
+        chunk::add_disk(&mut p, &mut q, &d);
+        add_disks(g, stripe, i, 0, k, &mut p, &mut q);
+        let d = stretch::load(g, stripe, g.n, i, WIDTH);
+        chunk::add(&mut p, &d);
+        let d = stretch::load(g, stripe, g.n + 1, i, WIDTH);
+        chunk::add(&mut q, &d);
+    }
+    Sums { p, q }
+}
+
 // P* and Q* of each column of a chunk without the roles x and y. A lost disk is no part of the loops:
 // its step is a doubling.
 pub fn survivors(g: Geometry, stripe: &[u8], i: usize, x: usize, y: usize) -> Sums

@@ -1,14 +1,14 @@
 -- `sums::parities` meets its contract: the highest disk, and all disks below it.
 -- Assumes nothing.
 use borrow.Author.Needs.{needs, elem-fits}
-use mathlib.Core.Path.{sym, ap, ap₂, _∙_}
+use mathlib.Core.Path.{sym, ap₂, _∙_}
 use native.Mathlib.Omega.{arith}
 use mir.Syntax.{w8}
 use Rattle.chunk.specs.Chunk.{width}
-use Rattle.column.specs.Column.{Column}
 use Rattle.stretch.specs.Stretch.{Has, columnOf}
-use Rattle.stretch.proofs.Laws.{has, column-of}
-use Rattle.sums.proofs.Horner.{two, tails-none, tails-more, tails-all}
+use Rattle.stretch.proofs.Laws.{has}
+use Rattle.sums.proofs.Horner.{two, tails-all}
+use Rattle.sums.proofs.Runs.{all-added}
 use Rattle.sums.proofs.Zeros.{no-parities}
 use Rattle.sums.proofs.parities.Statement.{statement}
 use Rattle.sums.proofs.parities.Tie as tie
@@ -39,8 +39,7 @@ returns c =
     let a = c .before .before .before .before .before .before .before .before .before .before .before .before .args in
     let n = a .g .n in
     let f = columnOf (a .g) (a .stripe .now) (a .i) width in
-    let highest = tails-more n f (d .result) (omega (arith, h .shaped .disk)) (omega arith) (tails-none n f) (d .ensures) (λ j. elem-fits w8 w8 (d .result) (d .ok .0) j (d .ok .1 .1) tt .fits) (first .0) (first .1) in
-    let sums = tails-all n f (c .add-disks .ensures f (λ j k l low high. ap (λ (e : Column). e k) (column-of h j l)) highest) in
+    let sums = tails-all n f (all-added (d .result) h (d .ensures) (λ j. elem-fits w8 w8 (d .result) (d .ok .0) j (d .ok .1 .1) tt .fits) (first .0) (first .1) (c .add-disks .ensures)) in
     ap₂ two (sums .0) (sums .1)
 
 returns-2 : tie.Need-returns-2
