@@ -19,7 +19,7 @@ use Rattle.shape.specs.Layout.{column}
 use Rattle.sums.specs.Strip.{strip}
 use Rattle.verdict.specs.Summary.{joined, summary, WithSummary}
 use Rattle.verdict.proofs.Summary.{summary-none, summary-again, summary-as}
-use Rattle.compare.specs.Compare.{RoomFor, Checked}
+use Rattle.compare.specs.Compare.{RoomFor, CheckedInto}
 
 -- found is the summary of the first i verdicts, and the room has them, if they are kept
 pub record Passed (g : Geometry) (s : List ℕ) (keep : Bool) (before room : List ℕ) (i found : ℕ) : Type 0 where
@@ -62,7 +62,7 @@ module _ {g : Geometry} {s : List ℕ} {keep : Bool} {before : List ℕ} where
       part : WithSummary (tabulate w (λ j. f (i + j))) v m
       part = summary-as (ap (λ (k : ℕ). tabulate k (λ j. f (i + j))) (part-length room at (at + w) (omega arith) holds ∙ omega arith)) told
 
-  pub passed-all : {room : List ℕ} {i found : ℕ} → Passed g s keep before room i found → i ≡ g .b → Checked g s keep found room
+  pub passed-all : {room : List ℕ} {i found : ℕ} → Passed g s keep before room i found → i ≡ g .b → CheckedInto g s keep found room
   passed-all passed all =
       record {
         result = passed .summarized ∙ ap (λ (k : ℕ). summary (tabulate k (λ j. verdict (g .n) (column g s j)))) all;

@@ -41,6 +41,7 @@ pub record RoomFor (g : Geometry) (keep : Bool) (room : List ℕ) : Type 0 where
   pub whole : keep ≡ true → length room ≡ g .b
   pub scratch : keep ≡ false → strip ≤ length room
 
-pub record Checked (g : Geometry) (s : List ℕ) (keep : Bool) (r : ℕ) (after : List ℕ) : Type 0 where
+-- the summary is found, and the room has the verdicts, if they are kept
+pub record CheckedInto (g : Geometry) (s : List ℕ) (keep : Bool) (r : ℕ) (after : List ℕ) : Type 0 where
   pub result : r ≡ summary (verdicts g s)
   pub room : keep ≡ true → after ≡ verdicts g s

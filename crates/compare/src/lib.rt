@@ -16,7 +16,7 @@ ghost use Rattle.shape.specs.Refusals.{WellShaped};
 ghost use Rattle.stretch.specs.Stretch.{Has};
 ghost use Rattle.sums.specs.Strip.{strip, HasStrip};
 ghost use Rattle.verdict.specs.Summary.{WithSummary};
-ghost use Rattle.compare.specs.Compare.{summaryOf, CompareCall, RoomFor, Checked};
+ghost use Rattle.compare.specs.Compare.{summaryOf, CompareCall, RoomFor, CheckedInto};
 ghost use Rattle.compare.specs.Repair.{unclear, repairRefusal};
 
 // Fills the room with the verdicts and answers their summary. Where a check is refused: 0, and the room stays.
@@ -67,7 +67,7 @@ pub fn repair_refusal(g: Geometry, stripe: &[u8]) -> u8
 // Where the verdicts are not kept, those of a stretch go over those of the one before.
 fn check_into(g: Geometry, stripe: &[u8], room: &mut [u16], keep: bool) -> u16
     requires { ⌜ WellShaped g (now stripe) × RoomFor g keep (now room) ⌝ }
-    ensures { λ r. ⌜ Checked g (now (stripe .entry)) keep r (now (room .exit)) ⌝ }
+    ensures { λ r. ⌜ CheckedInto g (now (stripe .entry)) keep r (now (room .exit)) ⌝ }
 {
     if sums::in_strips(g) {
         check_strips(g, stripe, room, keep)
@@ -86,7 +86,7 @@ fn place(i: usize, keep: bool) -> usize
 // By whole strips, of which the last may take columns again: their verdicts are the same.
 fn check_strips(g: Geometry, stripe: &[u8], room: &mut [u16], keep: bool) -> u16
     requires { ⌜ WellShaped g (now stripe) × (strip ≤ g .b) × RoomFor g keep (now room) ⌝ }
-    ensures { λ r. ⌜ Checked g (now (stripe .entry)) keep r (now (room .exit)) ⌝ }
+    ensures { λ r. ⌜ CheckedInto g (now (stripe .entry)) keep r (now (room .exit)) ⌝ }
 {
     let mut found = 0;
     let mut done = 0;
@@ -123,7 +123,7 @@ fn check_strip(g: Geometry, stripe: &[u8], i: usize, room: &mut [u16]) -> u16
 
 fn check_columns(g: Geometry, stripe: &[u8], room: &mut [u16], keep: bool) -> u16
     requires { ⌜ WellShaped g (now stripe) × RoomFor g keep (now room) ⌝ }
-    ensures { λ r. ⌜ Checked g (now (stripe .entry)) keep r (now (room .exit)) ⌝ }
+    ensures { λ r. ⌜ CheckedInto g (now (stripe .entry)) keep r (now (room .exit)) ⌝ }
 {
     let mut found = 0;
     let mut i = 0;
