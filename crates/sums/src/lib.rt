@@ -43,8 +43,8 @@ pub fn parities(g: Geometry, stripe: &[u8], i: usize) -> Sums
     Sums { p, q }
 }
 
-// P* and Q* of each column of a chunk: the parities that the data give, and the stored ones added. Apart from
-// `parities`, so that this one keeps one caller and is compiled into its loop.
+// P* and Q* of each column of a chunk: the parities that the data give, and the stored ones added.
+// It does not call `parities`, which has one caller and so is compiled into that one's loop.
 pub fn syndromes(g: Geometry, stripe: &[u8], i: usize) -> Sums
     ensures { λ r. ⌜ r ≡ sumsOf (g .n) (columnOf g (now (stripe .entry)) i width) ⌝ }
 {
