@@ -13,7 +13,7 @@ use Rattle.base.specs.Choice.{choose}
 use Rattle.column.specs.Column.{Column, Code, put, parityP, parityQ, Encoded, encodeColumn, adjustColumn, writeColumn, syndromeP, syndromeQ}
 use Rattle.column.proofs.Put.{put-same, put-other, put-back}
 use Rattle.column.proofs.Total.{total-same}
-use Rattle.column.proofs.Weighted.{Additive, weighted, weight-zero, weighted-sum, weighted-none, weighted-only, weighted-put}
+use Rattle.column.proofs.Weighted.{Additive, weighted, weight-zero, weighted-sum, weighted-none, weighted-only, weighted-put, weighted-change}
 use Rattle.column.specs.Lawful.{Lawful, Symbols}
 
 pub put-symbols : (w d v : ℕ) (c : Column) → v < 2 ^ w → Symbols w c → Symbols w (put d v c)
@@ -206,14 +206,8 @@ module _ (code : Code) (w m : ℕ) (laws : Lawful code w m) (n : ℕ) (few : n �
     -- the sum over the written data is the old one and what changed
     write-weighted : (t : ℕ → ℕ → ℕ) → Additive t → weighted t n (writeColumn code n k v c) ≡ sum (weighted t n c) (t k δ)
     write-weighted t add =
-        weighted-put t add n (adjustColumn code n k v c) k v hk
-        ∙ ap (λ (x : ℕ). sum x (t k v)) (total-same n (λ j p. ap (λ (x : ℕ). t j (choose (eqb j k) 0 x)) (adjust-data j p)))
-        ∙ ap (sum rest) (sym (sum-cancel (t k (c k)) (t k v)))
-        ∙ sym (sum-assoc rest (t k (c k)) (sum (t k (c k)) (t k v)))
-        ∙ ap₂ sum (sym (weighted-put t add n c k (c k) hk) ∙ ap (weighted t n) (put-back k c)) (sym (add k (c k) v))
-      where
-        rest : ℕ
-        rest = weighted t n (put k 0 c)
+        weighted-change t add n (adjustColumn code n k v c) k v hk
+        ∙ ap₂ (λ (s x : ℕ). sum s (t k (sum x v))) (total-same n (λ j p. ap (t j) (adjust-data j p))) (adjust-data k hk)
 
     pub write-syndromeP : syndromeP n (writeColumn code n k v c) ≡ syndromeP n c
     write-syndromeP = ap₂ sum write-p (write-weighted (λ j x. x) identity) ∙ both-cancel (c n) δ (parityP n c)

@@ -7,4 +7,5 @@ pub mod Columns
 pub mod Rebuild
 pub mod Series
 pub mod Verdicts
+pub mod Mend
 pub mod Witnesses

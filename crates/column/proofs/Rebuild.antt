@@ -19,7 +19,7 @@ use Rattle.column.specs.Column.{Column, Code, put, roleOf, parityP, pari
 use Rattle.column.proofs.Put.{put-same, put-other, put-comm, put-back}
 use Rattle.column.proofs.Total.{total-same, total-lt}
 use Rattle.column.proofs.Weighted.{Additive, weighted, weighted-put, weighted-outside}
-use Rattle.column.specs.Loss.{Spared, KnownLoss, Meets}
+use Rattle.column.specs.Loss.{Known, Spared, KnownLoss, Meets}
 use Rattle.column.specs.Lawful.{Lawful, Symbols}
 use Rattle.column.proofs.Columns.{put-symbols, encode-encoded, encoded-same, unique}
 
@@ -35,7 +35,7 @@ behind : (t : ℕ → ℕ → ℕ) (n x v d u : ℕ) (c : Column) → n ≤ d �
 behind t n x v d u c h = total-same n (λ k p. ap (λ (s : ℕ). t k (choose (eqb k x) v s)) (put-other d u c k (omega arith)))
 
 -- a + (b + a) is b
-around : (a b : ℕ) → sum a (sum b a) ≡ b
+pub around : (a b : ℕ) → sum a (sum b a) ≡ b
 around a b = ap (sum a) (sum-comm b a) ∙ sum-cancel a b
 
 module _ (code : Code) (w m : ℕ) (laws : Lawful code w m) (n : ℕ) (few : n ≤ m) where
@@ -43,10 +43,10 @@ module _ (code : Code) (w m : ℕ) (laws : Lawful code w m) (n : ℕ) (few : n �
   identity k x y = refl
 
   -- ---- the bytes are symbols
-  parityP-lt : (c : Column) → Symbols w c → parityP n c < 2 ^ w
+  pub parityP-lt : (c : Column) → Symbols w c → parityP n c < 2 ^ w
   parityP-lt c h = total-lt n w c (λ k p. h k)
 
-  parityQ-lt : (c : Column) → Symbols w c → parityQ code n c < 2 ^ w
+  pub parityQ-lt : (c : Column) → Symbols w c → parityQ code n c < 2 ^ w
   parityQ-lt c h = total-lt n w (λ k. code .act k (c k)) (λ k p. laws .act-closed k (c k) (h k))
 
   cleared : (x : ℕ) (c : Column) → Symbols w c → Symbols w (put x 0 c)
@@ -232,6 +232,15 @@ module _ (code : Code) (w m : ℕ) (laws : Lawful code w m) (n : ℕ) (few : n �
         unique code w m laws n few e (rebuildColumn code n (Two d f) c) he (rebuild-symbols (Two d f) c hc) meets (rebuild-meets (Two d f) c hc s) (roleOf n d) (roleOf n f)
         (λ r hr nd nf. agree r hr (nd, nf) ∙ sym (rebuild-spares code n (Two d f) c r (nd, nf)))
 
+  -- an encoded column is left as it is where one device is named
+  pub rebuild-fixed : (d : Device) (c : Column) → Known n d → Encoded code n c → rebuildColumn code n (One d) c ≡ c
+  rebuild-fixed d c known h = ap (λ (v : ℕ). put (roleOf n d) v c) (byte d known) ∙ put-back (roleOf n d) c
+    where
+      byte : (d : Device) → Known n d → newByte code n d c ≡ c (roleOf n d)
+      byte (Data x) hx = sym (only-data c c x hx (λ r hr ne. refl) (h .first))
+      byte P known = sym (h .first)
+      byte Q known = sym (h .second)
+
   -- what stood on the lost devices has no influence
   pub rebuild-blind : (l : Lost) (c e : Column) → Symbols w c → Symbols w e → KnownLoss n l → ((r : ℕ) → r < n + 2 → Spared n l r → e r ≡ c r)
       → (r : ℕ)
@@ -255,7 +264,7 @@ module _ (code : Code) (w m : ℕ) (laws : Lawful code w m) (n : ℕ) (few : n �
   meets-same (Two d f) c e same h = encoded-same code w m laws n few c e same h
 
   -- an encoded column meets whatever a rebuild uses, so a loss and its rebuild bring it back
-  encoded-meets : (l : Lost) (c : Column) → Encoded code n c → Meets code n l c
+  pub encoded-meets : (l : Lost) (c : Column) → Encoded code n c → Meets code n l c
   encoded-meets (One (Data x)) c h = h .first
   encoded-meets (One P) c h = h .first
   encoded-meets (One Q) c h = h .second

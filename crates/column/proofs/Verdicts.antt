@@ -10,11 +10,11 @@ use native.Mathlib.Decide.{ℕ-discrete}
 use Rattle.gf256.specs.declared.Logarithm.{Logarithm}
 use Rattle.gf256.specs.declared.Logarithm.the-variants.{Is as LogarithmIs, None as NoLogarithm}
 use Rattle.gf256.specs.Field.{sum, product, power, reciprocal, quotient, firstExponent, logarithm}
-use Rattle.gf256.proofs.Laws.{sum-self, sum-exchange, sum-only-zero, zero-sum, xor-lt, product-right, product-comm, product-assoc, product-one, product-inverse, product-nonzero, power-lt, power-of-two-nonzero, found-below, exponent-within, logarithm-power-of-two}
+use Rattle.gf256.proofs.Laws.{sum-cancel, sum-only-zero, xor-lt, product-right, product-comm, product-assoc, product-one, product-inverse, product-nonzero, power-lt, power-of-two-nonzero, found-is, exponent-within, logarithm-power-of-two}
 use Rattle.column.specs.Column.{Column, put, parityP, parityQ, syndromeP, syndromeQ, Encoded, reedSolomon, verdictOf, verdict, located}
 use Rattle.column.proofs.Total.{total-same}
-use Rattle.column.proofs.Put.{put-same, put-other, put-back}
-use Rattle.column.proofs.Weighted.{Additive, weighted, weighted-put, weighted-outside}
+use Rattle.column.proofs.Put.{put-same, put-other}
+use Rattle.column.proofs.Weighted.{Additive, weighted, weighted-change, weighted-outside}
 use Rattle.column.proofs.ReedSolomon.{reed-solomon}
 use Rattle.column.specs.Lawful.{Symbols}
 use Rattle.column.proofs.Series.{encoded-zero, zero-encoded}
@@ -98,12 +98,7 @@ module _ (n : ℕ) (few : n ≤ 255) (c : Column) where
 
       -- stored plus recomputed, for either parity
       differs : (t : ℕ → ℕ → ℕ) → Additive t → (p : ℕ) → p ≡ weighted t n c → sum p (weighted t n (put z v c)) ≡ t z δ
-      differs t add p e =
-          ap₂ sum (e ∙ ap (weighted t n) (sym (put-back z c)) ∙ weighted-put t add n c z (c z) hz) (weighted-put t add n c z v hz)
-          ∙ sum-exchange (weighted t n (put z 0 c)) (t z (c z)) (weighted t n (put z 0 c)) (t z v)
-          ∙ ap (λ (x : ℕ). sum x (sum (t z (c z)) (t z v))) (sum-self (weighted t n (put z 0 c)))
-          ∙ zero-sum (sum (t z (c z)) (t z v))
-          ∙ sym (add z (c z) v)
+      differs t add p e = ap₂ sum e (weighted-change t add n c z v hz) ∙ sum-cancel (weighted t n c) (t z δ)
 
       -- P* = D_z + X_z
       pub equation24 : P* ≡ δ
@@ -166,7 +161,7 @@ verdict-known n c = rows (syndromeP n c) (syndromeQ reedSolomon n c)
     rows (suc p) zero = inl (omega arith)
     rows zero (suc q) = inl (omega arith)
     rows (suc p) (suc q) =
-        let v = quotient (suc q) (suc p) (suc-ne-zero p) in last (firstExponent v 0 n) (λ z is. omega (arith, found-below v n 0 is))
+        let v = quotient (suc q) (suc p) (suc-ne-zero p) in last (firstExponent v 0 n) (λ z is. omega (arith, found-is v n 0 is .0))
 
 -- P* and Q* are both other than 00 where the check divides: 0, 1 and 2 are told without
 pub divides-nonzero : (n : ℕ) (c : Column) → 3 ≤ verdict n c → (syndromeP n c ≢ 0) × (syndromeQ reedSolomon n c ≢ 0)
@@ -178,3 +173,40 @@ divides-nonzero n c = rows (syndromeP n c) (syndromeQ reedSolomon n c)
     rows (suc p) zero h = absurd (omega arith)
     rows zero (suc q) h = absurd (omega arith)
     rows (suc p) (suc q) h = (suc-ne-zero p, suc-ne-zero q)
+
+-- ---- what a verdict that names a device tells of P* and Q*
+located-is : (l : Logarithm) {z : ℕ} → located l ≡ 16 + z → l ≡ LogarithmIs z
+located-is (LogarithmIs y) e = ap LogarithmIs (omega arith)
+located-is NoLogarithm e = absurd (omega arith)
+
+located-large : (l : Logarithm) → 3 ≤ located l
+located-large (LogarithmIs z) = omega arith
+located-large NoLogarithm = le-refl 3
+
+pub told-p : (n p q : ℕ) → verdictOf n p q ≡ 1 → q ≡ 0
+unfolding verdictOf
+told-p n p zero e = refl
+told-p n zero (suc q) e = absurd (omega arith)
+told-p n (suc p) (suc q) e = absurd (omega (arith, located-large (firstExponent (quotient (suc q) (suc p) (suc-ne-zero p)) 0 n)))
+
+pub told-q : (n p q : ℕ) → verdictOf n p q ≡ 2 → p ≡ 0
+unfolding verdictOf
+told-q n zero q e = refl
+told-q n (suc p) zero e = absurd (omega arith)
+told-q n (suc p) (suc q) e = absurd (omega (arith, located-large (firstExponent (quotient (suc q) (suc p) (suc-ne-zero p)) 0 n)))
+
+-- equation 25, from the verdict
+pub told-data : (n p q z : ℕ) → p < 256 → q < 256 → verdictOf n p q ≡ 16 + z → q ≡ product (power 2 z) p
+unfolding verdictOf
+told-data n zero zero z hp hq e = absurd (omega arith)
+told-data n (suc p) zero z hp hq e = absurd (omega arith)
+told-data n zero (suc q) z hp hq e = absurd (omega arith)
+told-data n (suc p) (suc q) z hp hq e =
+    let other = suc-ne-zero p in
+    let v = quotient (suc q) (suc p) other in
+    sym
+    (ap (λ (x : ℕ). product x (suc p)) (found-is v n 0 (located-is (firstExponent v 0 n) e) .1)
+    ∙ product-assoc (suc q) (reciprocal (suc p) other) (suc p)
+    ∙ ap (product (suc q)) (product-comm (reciprocal (suc p) other) (suc p) ∙ product-inverse (suc p) hp other)
+    ∙ product-comm (suc q) 1
+    ∙ product-one (suc q) hq)

@@ -5,9 +5,9 @@ use mathlib.Core.Logic.{_≢_}
 use Prim.Native.Nat.{ℕ, _≤_, _<_}
 use native.Mathlib.Omega.{arith}
 use Rattle.gf256.specs.Field.{sum}
-use Rattle.gf256.proofs.Laws.{sum-self, zero-sum, sum-zero}
+use Rattle.gf256.proofs.Laws.{sum-assoc, sum-self, sum-cancel, zero-sum, sum-zero}
 use Rattle.column.specs.Column.{Column, put, total}
-use Rattle.column.proofs.Put.{put-same, put-other, by-role}
+use Rattle.column.proofs.Put.{put-same, put-other, put-back, by-role}
 use Rattle.column.proofs.Total.{total-same, total-sum, total-none, total-only}
 
 abbrev pub Additive : (ℕ → ℕ → ℕ) → Type 0
@@ -46,6 +46,17 @@ module _ (t : ℕ → ℕ → ℕ) (add : Additive t) (n : ℕ) where
       ∙ weighted-sum (put x 0 c) (only x v)
       ∙ ap (sum (weighted t n (put x 0 c)))
       (weighted-only (only x v) x h (λ k p q. put-other x v (λ r. 0) k q) ∙ ap (t x) (put-same x v (λ r. 0)))
+
+  -- what a changed symbol adds
+  pub weighted-change : (c : Column) (x v : ℕ) → x < n → weighted t n (put x v c) ≡ sum (weighted t n c) (t x (sum (c x) v))
+  weighted-change c x v h =
+      weighted-put c x v h
+      ∙ ap (sum rest) (sym (sum-cancel (t x (c x)) (t x v)))
+      ∙ sym (sum-assoc rest (t x (c x)) (sum (t x (c x)) (t x v)))
+      ∙ ap₂ sum (sym (weighted-put c x (c x) h) ∙ ap (weighted t n) (put-back x c)) (sym (add x (c x) v))
+    where
+      rest : ℕ
+      rest = weighted t n (put x 0 c)
 
   pub weighted-outside : (c : Column) (d v : ℕ) → n ≤ d → weighted t n (put d v c) ≡ weighted t n c
   weighted-outside c d v h = total-same n (λ k p. ap (t k) (put-other d v c k (omega arith)))

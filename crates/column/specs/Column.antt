@@ -175,3 +175,14 @@ verdictOf n (suc p) (suc q) = located (firstExponent (quotient (suc q) (suc p) (
 
 abbrev pub verdict : ℕ → Column → ℕ
 verdict n c = verdictOf n (syndromeP n c) (syndromeQ reedSolomon n c)
+
+-- the verdict that names a device
+abbrev pub rightVerdict : Device → ℕ
+rightVerdict (Data z) = 16 + z
+rightVerdict P = 1
+rightVerdict Q = 2
+
+-- repair (2026-02), where the summary names device d: a column with a verdict is mended, P or Q recomputed and a data byte from P, and a clean
+-- column stays
+abbrev pub mendColumn : ℕ → Device → Column → Column
+mendColumn n d c = choose (eqb (verdict n c) 0) c (rebuildColumn reedSolomon n (One d) c)

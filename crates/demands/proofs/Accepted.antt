@@ -1,7 +1,7 @@
 -- What an accepted call does to every column of the stripe, and that a refused one leaves the stripe: from the definitions that the
 -- contracts cite, by the law of `lift`.
 -- Assumes nothing.
-use mathlib.Core.Path.{_≡_, sym, ap, subst, _∙_}
+use mathlib.Core.Path.{_≡_, refl, sym, ap, subst, _∙_}
 use mathlib.Core.Logic.{_≢_}
 use mathlib.Core.List.{List}
 use Prim.Native.Nat.{ℕ, _+_, _-_, _≤_, _<_}
@@ -15,6 +15,8 @@ use Rattle.base.proofs.Refused.{left-alone, left-done}
 use Rattle.column.specs.declared.Lost.{Lost}
 use Rattle.column.specs.Column.{Column, encodeColumn, writeColumn, rebuildColumn, reedSolomon}
 use Rattle.column.specs.Lawful.{Symbols}
+use Rattle.column.specs.Loss.{overwrite}
+use Rattle.column.proofs.Loss.{overwrite-spares, overwrite-symbols}
 use Rattle.shape.specs.declared.Geometry.{Geometry}
 use Rattle.shape.specs.Layout.{size, column, columnAt, roleAt, lift}
 use Rattle.shape.specs.Refusals.{encodeRefusal, writeRefusal}
@@ -26,6 +28,9 @@ use Rattle.write.specs.Write.{covers, written, afterWrite}
 use Rattle.stripe.specs.Stripe.{encoded, rebuilt}
 use Rattle.stripe.specs.Calls.{afterEncode, afterRebuild}
 use Rattle.demands.specs.Series.{Bytes}
+use Rattle.demands.specs.Members.{lose}
+use Rattle.demands.specs.Called.{Loses}
+use Rattle.demands.proofs.Bytes.{bytes-slice, columns-symbols}
 
 lift-bytes : (g : Geometry) (f : ℕ → Column → Column) (s : List ℕ) → ((i : ℕ) → Symbols 8 (f i (column g s i))) → Bytes (lift g f s)
 unfolding lift
@@ -50,6 +55,19 @@ lifted g f s len e =
       long = ap length e ∙ length-lift g f s;
       columns = λ i r hi hr. ap (λ (l : List ℕ). column g l i r) e ∙ lift-at g f s len hi hr;
       bytes = λ h. subst Bytes (sym e) (lift-bytes g f s h);
+    }
+
+-- what `lose` puts on the named devices is a loss as a series has it
+pub lose-loses : (g : Geometry) (lost : Lost) (junk s : List ℕ) → length s ≡ size g → Bytes junk → Bytes s → Loses g lost s (lose g lost junk s)
+lose-loses g lost junk s whole hj hs =
+    let laid = lifted g (λ i c. overwrite (g .n) lost (column g junk i) c) s whole refl in
+    record {
+      bytes =
+          bytes-slice (lose g lost junk s)
+          (laid .bytes
+          (λ i. overwrite-symbols 8 (g .n) lost (column g junk i) (column g s i) (columns-symbols g junk hj i) (columns-symbols g s hs i)));
+      long = laid .long;
+      spared = λ i r hi hr sp. laid .columns i r hi hr ∙ overwrite-spares (g .n) lost (column g junk i) (column g s i) r sp;
     }
 
 pub encode-lifts : (g : Geometry) (s : List ℕ) → encodeRefusal g (length s) ≡ 0 → Lifted g (λ i c. encodeColumn reedSolomon (g .n) c) s (afterEncode g s)

@@ -7,14 +7,11 @@ use mathlib.Core.List.{List, [], _∷_}
 use Prim.Native.Nat.{ℕ, zero, suc, _+_, _<_}
 use native.Mathlib.Omega.{arith}
 use lib.ListN.{length}
-use mir.Syntax.{w8}
-use prog.AdequacyRun.{fit-all}
-use borrow.Table.Referent.{fInt}
-use borrow.Rule.Slice.Know.{Fit}
 use Rattle.base.specs.Choice.{choose}
 use Rattle.base.specs.Refusal.{unlessRefused}
 use Rattle.base.proofs.Refused.{first-none}
 use Rattle.column.specs.declared.Lost.{Lost}
+use Rattle.column.specs.declared.Lost.the-variants as Lost
 use Rattle.column.specs.Column.{reedSolomon}
 use Rattle.column.specs.Loss.{named, overwrite}
 use Rattle.column.proofs.Loss.{spared-of}
@@ -28,27 +25,23 @@ use Rattle.devices.specs.Codes.{namingOf, namedRefusal}
 use Rattle.shape.proofs.Places.{length-lift, lift-at, by-columns}
 use Rattle.shape.proofs.Refused.{well-shaped}
 use Rattle.write.specs.Write.{written, afterWrite}
-use Rattle.stripe.specs.Stripe.{rebuilt}
-use Rattle.stripe.specs.Calls.{afterRebuild, rebuiltBy, EncodeCall, RebuildCall, RebuildNamedCall}
+use Rattle.verdict.specs.declared.Faulty.{Faulty}
+use Rattle.verdict.specs.declared.Faulty.the-variants.{One, None}
+use Rattle.verdict.specs.Faulty.{faultyOf}
+use Rattle.verdict.specs.Summary.{summary}
+use Rattle.compare.specs.Compare.{verdicts}
+use Rattle.compare.specs.Repair.{repairRefusal}
+use Rattle.stripe.specs.Stripe.{rebuilt, mendedOn, repaired}
+use Rattle.stripe.specs.Calls.{afterRebuild, afterRepair, rebuiltBy, EncodeCall, RebuildCall, RebuildNamedCall}
+use Rattle.stripe.proofs.Repairs.{repair-refused}
 use Rattle.demands.specs.Layout.{layoutOf}
 use Rattle.demands.specs.Series.{Bytes, EncodedStripe, Member, run, All, latest, Claim, EverySeries}
-use Rattle.demands.specs.Members.{lose, lossMember, Allowed, write, refused, loss, AllowedFrom}
+use Rattle.demands.specs.Members.{lose, lossMember, Allowed, write, refused, loss, damage, refused-repair, AllowedFrom}
 use Rattle.demands.specs.Demand2.{Rebuilt}
-use Rattle.demands.specs.Called.{Slice, Loses, Step, writes, refuses, refuses-codes, rebuilds, rebuilds-codes, Steps, done, next, Calls, Called}
+use Rattle.demands.specs.Called.{Slice, Loses, Step, writes, refuses, refuses-codes, refuses-repair, rebuilds, rebuilds-codes, repairs, Steps, done, next, Calls, Called}
+use Rattle.demands.proofs.Bytes.{slice-bytes, bytes-slice}
 use Rattle.demands.proofs.Demand2.{encode-meets, encode-keeps-data, demand2}
 use Rattle.demands.proofs.Demand3.{demand3}
-
--- ---- what a slice holds is bytes, and bytes are what a slice may hold
-pub slice-bytes : (s : List ℕ) → Slice s → Bytes s
-slice-bytes = fit-all
-
-pub bytes-slice : (s : List ℕ) → Bytes s → Slice s
-bytes-slice [] h = tt
-bytes-slice (x ∷ xs) h = (record { fits = h 0 }, bytes-slice xs (λ j. h (suc j)))
-
--- what the toolchain's rule gives every function of a slice that it is lent: each element is a value of its type
-pub lent-slice : (s : List ℕ) → Fit (fInt w8) 0 s → Slice s
-lent-slice s known = bytes-slice s (λ j. known j .fits)
 
 -- ---- one call
 unless-long : (k : ℕ) (after before : List ℕ) → length after ≡ length before → length (unlessRefused k after before) ≡ length before
@@ -63,6 +56,14 @@ write-long h disk offset new s =
 rebuild-long : (h : Geometry) (lost : Lost) (s : List ℕ) → length (afterRebuild h lost s) ≡ length s
 unfolding afterRebuild
 rebuild-long h lost s = unless-long (rebuildRefusal h (length s) lost) (rebuilt h lost s) s (length-lift h _ s)
+
+mended-long : (h : Geometry) (f : Faulty) (s : List ℕ) → length (mendedOn h f s) ≡ length s
+mended-long h (One d) s = length-lift h _ s
+mended-long h None s = refl
+
+repair-long : (h : Geometry) (s : List ℕ) → length (afterRepair h s) ≡ length s
+unfolding afterRepair
+repair-long h s = unless-long (repairRefusal h s) (repaired h s) s (mended-long h (faultyOf (summary (verdicts h s))) s)
 
 named-long : (h : Geometry) (naming : Naming) (s : List ℕ) → length (rebuiltBy h naming s) ≡ length s
 named-long h (Loss lost) s = rebuild-long h lost s
@@ -93,6 +94,8 @@ module _ (g : Geometry) (encoded : Type 0) where
   step-runs {s} shaped (rebuilds lost left enc loses call) = call .stripe ∙ ap (afterRebuild g lost) (sym (lose-is g lost s left shaped loses))
   step-runs {s} shaped (rebuilds-codes first second lost left enc named loses call) =
       by-codes g named call .stripe ∙ ap (afterRebuild g lost) (sym (lose-is g lost s left shaped loses))
+  step-runs {s} shaped (refuses-repair h r n call) = call .stripe ∙ repair-refused h s (λ e. n (call .result ∙ e))
+  step-runs {s} shaped (repairs d left enc known loses call) = call .stripe ∙ ap (afterRepair g) (sym (lose-is g (Lost.One d) s left shaped loses))
 
   step-long : {s t : List ℕ} {m : Member} → Step g encoded s m t → length t ≡ length s
   step-long {s} (writes h disk offset new r hn same call) = ap length (call .stripe) ∙ write-long h disk offset new s
@@ -101,6 +104,8 @@ module _ (g : Geometry) (encoded : Type 0) where
   step-long {s} (rebuilds lost left enc loses call) = ap length (call .stripe) ∙ rebuild-long g lost left ∙ loses .long
   step-long {s} (rebuilds-codes first second lost left enc named loses call) =
       ap length (call .stripe) ∙ named-long g (namingOf first second) left ∙ loses .long
+  step-long {s} (refuses-repair h r n call) = ap length (call .stripe) ∙ repair-long h s
+  step-long (repairs d left enc known loses call) = ap length (call .stripe) ∙ repair-long g left ∙ loses .long
 
   loss-allowed : {s t : List ℕ} (lost : Lost) (left : List ℕ) → encoded → Loses g lost s left → RebuildCall g lost left 0 t
       → Allowed g (length s) encoded (lossMember g lost left)
@@ -113,6 +118,8 @@ module _ (g : Geometry) (encoded : Type 0) where
   step-allowed (refuses-codes h first second r n call) = refused h (namingOf first second) (λ e. n (call .result ∙ e))
   step-allowed (rebuilds lost left enc loses call) = loss-allowed lost left enc loses call
   step-allowed (rebuilds-codes first second lost left enc named loses call) = loss-allowed lost left enc loses (by-codes g named call)
+  step-allowed (refuses-repair h r n call) = refused-repair
+  step-allowed (repairs d left enc known loses call) = damage d left (slice-bytes left (loses .bytes)) known enc
 
   -- ---- a chain of them, from any stripe that is as long as the first
   chain-runs : {s t : List ℕ} {ms : List Member} (len : ℕ) → encodeRefusal g len ≡ 0 → length s ≡ len → Steps g encoded s ms t

@@ -11,7 +11,7 @@ use Rattle.shape.specs.declared.Geometry.{Geometry}
 use Rattle.column.specs.declared.Device.{Device}
 use Rattle.column.specs.declared.Device.the-variants.{Data, P, Q}
 use Rattle.column.specs.declared.Lost.the-variants.{One}
-use Rattle.column.specs.Column.{Column, put, roleOf, Encoded, reedSolomon, verdict}
+use Rattle.column.specs.Column.{Column, put, roleOf, Encoded, reedSolomon, verdict, rightVerdict}
 use Rattle.shape.specs.Layout.{column}
 use Rattle.compare.specs.Compare.{verdicts, afterCheck}
 use Rattle.shape.specs.Refusals.{checkRefusal}
@@ -21,7 +21,7 @@ use Rattle.shape.proofs.Refused.{well-shaped, check-accepted}
 use Rattle.column.proofs.Put.{put-same, put-other}
 use Rattle.column.specs.Loss.{Spared, KnownLoss}
 use Rattle.demands.specs.Series.{Bytes}
-use Rattle.demands.specs.Demand2.{SameColumn, rightVerdict}
+use Rattle.demands.specs.Demand2.{SameColumn}
 use Rattle.column.specs.Lawful.{Symbols}
 use Rattle.demands.proofs.Bytes.{columns-symbols}
 use Rattle.column.proofs.Verdicts.{verdict-zero, verdict-p, verdict-q, verdict-data, verdict-local}

@@ -12,13 +12,14 @@ use borrow.Author.Tests.{eq-eqb, ne-eqb, eqb-true, leb-true, ltb-true}
 use lib.Dec.{eqb, leb, ltb}
 use lib.ListN.{length, getD}
 use Rattle.base.specs.Choice.{choose, both}
+use Rattle.column.specs.declared.Device.{Device}
 use Rattle.column.specs.declared.Lost.{Lost}
+use Rattle.column.specs.declared.Lost.the-variants.{One}
 use Rattle.column.specs.Column.{Column, reedSolomon, writeColumn, rebuildColumn}
 use Rattle.column.specs.Lawful.{Symbols}
-use Rattle.column.specs.Loss.{overwrite}
+use Rattle.column.specs.Loss.{KnownLoss}
 use Rattle.column.proofs.ReedSolomon.{reed-solomon}
 use Rattle.column.proofs.Columns.{write-back, write-symbols}
-use Rattle.column.proofs.Loss.{overwrite-spares, overwrite-symbols}
 use Rattle.column.proofs.Rebuild.{rebuild-symbols}
 use Rattle.column.proofs.Series.{kept-encoded}
 use Rattle.shape.specs.declared.Geometry.{Geometry}
@@ -30,15 +31,18 @@ use Rattle.devices.specs.Refusals.{rebuildRefusal}
 use Rattle.devices.specs.Codes.{namedRefusal}
 use Rattle.shape.proofs.Refused.{well-shaped, write-accepted}
 use Rattle.devices.proofs.Refused.{rebuild-accepted}
+use Rattle.devices.proofs.Accepts.{rebuild-accepts}
 use Rattle.write.specs.Write.{covers, afterWrite}
 use Rattle.stripe.specs.Calls.{afterRebuild}
 use Rattle.demands.specs.Layout.{LawfulLayout, layoutOf}
 use Rattle.demands.specs.Series.{Bytes, EncodedStripe, none, given, valueOr, Member, Apart, GivesNothing, EverySeries}
-use Rattle.demands.specs.Members.{sets, writeMember, refusedRebuild, lose, lossMember, Allowed, write, refused, loss, AllowedFrom}
-use Rattle.demands.proofs.Bytes.{columns-symbols, layout-lawful}
-use Rattle.demands.proofs.Accepted.{Lifted, lifted, writeRule, write-lifts, write-refused, rebuild-lifts, rebuild-refused}
-use Rattle.demands.proofs.Members.{Does, does-nothing, does-write, does-loss}
+use Rattle.demands.specs.Members.{sets, writeMember, refusedRebuild, lose, lossMember, damageMember, refusedRepair, Allowed, write, refused, loss, damage, refused-repair, AllowedFrom}
+use Rattle.demands.specs.Called.{Loses}
+use Rattle.demands.proofs.Bytes.{slice-bytes, bytes-slice, columns-symbols, layout-lawful}
+use Rattle.demands.proofs.Accepted.{Lifted, writeRule, write-lifts, write-refused, rebuild-lifts, rebuild-refused, lose-loses}
+use Rattle.demands.proofs.Members.{Does, does-as, does-nothing, does-write, does-loss}
 use Rattle.demands.proofs.Series.{every-series}
+use Rattle.demands.proofs.Repairs.{damage-rebuilt}
 
 -- what holds of both holds of either
 chosen : {A : Type 0} (Holds : A → Type 0) {x y : A} (b : Bool) → Holds x → Holds y → Holds (choose b x y)
@@ -134,29 +138,43 @@ module _ (g : Geometry) (t : List ℕ) (bytes : Bytes t) (shaped : WellShaped g 
         known = rebuild-accepted g (length t) lost e .1;
         nothing = λ k p. refl;
         encoded = enc;
-        long = back .long ∙ laid .long;
+        long = back .long ∙ loses .long;
         left = left;
         bytes = back .bytes (λ i. rebuild-symbols reedSolomon 8 255 reed-solomon (g .n) (shaped .disks) lost (column g u i) (columns-symbols g u left i));
-        spared = λ i r hi hr sp. sym (laid .columns i r hi hr ∙ overwrite-spares (g .n) lost (column g junk i) (column g t i) r sp);
+        spared = λ i r hi hr sp. sym (loses .spared i r hi hr sp);
         columns = back .columns;
       }
     where
       u : List ℕ
       u = lose g lost junk t
 
-      laid : Lifted g (λ i c. overwrite (g .n) lost (column g junk i) c) t u
-      laid = lifted g (λ i c. overwrite (g .n) lost (column g junk i) c) t (shaped .whole) refl
+      loses : Loses g lost t u
+      loses = lose-loses g lost junk t (shaped .whole) hj bytes
 
       left : Bytes u
-      left = laid .bytes (λ i. overwrite-symbols 8 (g .n) lost (column g junk i) (column g t i) (columns-symbols g junk hj i) (columns-symbols g t bytes i))
+      left = slice-bytes u (loses .bytes)
 
       back : Lifted g (λ i c. rebuildColumn reedSolomon (g .n) lost c) u (afterRebuild g lost u)
-      back = rebuild-lifts g lost u (ap (λ (n : ℕ). rebuildRefusal g n lost) (laid .long) ∙ e)
+      back = rebuild-lifts g lost u (ap (λ (n : ℕ). rebuildRefusal g n lost) (loses .long) ∙ e)
 
-  allowed-does : (encoded : Type 0) → (encoded → EncodedStripe (layoutOf g) reedSolomon t) → (m : Member) → Allowed g (length t) encoded m → Done m
-  allowed-does encoded enc m (write h disk offset new hn same) = write-does h disk offset new hn same
-  allowed-does encoded enc m (refused h naming n) = refused-does h naming n
-  allowed-does encoded enc m (loss lost junk hj e start) = loss-does lost junk hj e (enc start)
+  -- damage and its repair are a loss of that device and its rebuild
+  damage-does : (d : Device) (junk : List ℕ) → Bytes junk → KnownLoss (g .n) (One d) → encodeRefusal g (length t) ≡ 0
+      → EncodedStripe (layoutOf g) reedSolomon t
+      → Done (damageMember g d junk)
+  damage-does d junk hj known fits enc =
+      does-as (layoutOf g) reedSolomon (lossMember g (One d) junk) (damageMember g d junk) t
+      (damage-rebuilt g t (bytes-slice t bytes) fits enc d known (lose g (One d) junk t) (lose-loses g (One d) junk t (shaped .whole) hj bytes))
+      refl
+      (loss-does (One d) junk hj (rebuild-accepts g (length t) fits (One d) known) enc)
+
+  allowed-does : (encoded : Type 0) → (encoded → EncodedStripe (layoutOf g) reedSolomon t) → encodeRefusal g (length t) ≡ 0 → (m : Member)
+      → Allowed g (length t) encoded m
+      → Done m
+  allowed-does encoded enc fits m (write h disk offset new hn same) = write-does h disk offset new hn same
+  allowed-does encoded enc fits m (refused h naming n) = refused-does h naming n
+  allowed-does encoded enc fits m (loss lost junk hj e start) = loss-does lost junk hj e (enc start)
+  allowed-does encoded enc fits m (damage d junk hj known start) = damage-does d junk hj known fits (enc start)
+  allowed-does encoded enc fits m refused-repair = stays refusedRepair (λ k p. refl) refl
 
 -- ---- every series from the stripe s
 pub demand3 : (g : Geometry) (s : List ℕ) → Bytes s → encodeRefusal g (length s) ≡ 0
@@ -165,8 +183,10 @@ demand3 g s bytes fits =
     every-series (layoutOf g) reedSolomon 8 (layout-lawful g (shaped .some)) s (shaped .whole) bytes (AllowedFrom g s)
     (λ m allowed t reached.
     let len : length t ≡ length s = reached .long ∙ sym (shaped .whole) in
-    allowed-does g t (reached .bytes) (well-shaped g t (ap (encodeRefusal g) len ∙ fits)) (EncodedStripe (layoutOf g) reedSolomon s)
+    let also : encodeRefusal g (length t) ≡ 0 = ap (encodeRefusal g) len ∙ fits in
+    allowed-does g t (reached .bytes) (well-shaped g t also) (EncodedStripe (layoutOf g) reedSolomon s)
     (λ enc i hi. kept-encoded reedSolomon (g .n) (reached .kept i hi) (enc i hi))
+    also
     m
     (rw len allowed))
   where

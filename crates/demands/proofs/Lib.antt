@@ -2,9 +2,10 @@ pub mod Bytes
 pub mod Accepted
 pub mod Members
 pub mod Series
-pub mod Demand3
 pub mod Demand2
 pub mod Checks
-pub mod Called
 pub mod Summaries
+pub mod Repairs
+pub mod Demand3
+pub mod Called
 pub mod Witnesses

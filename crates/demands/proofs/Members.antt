@@ -56,6 +56,17 @@ pub record LosesAndRebuilds (L : Layout) (code : Code) (m : Member) (t u : List 
   pub spared : (i r : ℕ) → i < L .columns → r < L .disks + 2 → Spared (L .disks) lost r → columnOf L t i r ≡ columnOf L u i r
   pub columns : (i r : ℕ) → i < L .columns → r < L .disks + 2 → columnOf L (m .runs t) i r ≡ rebuildColumn code (L .disks) lost (columnOf L u i) r
 
+-- a member that makes the same of the stripe as another, and gives the same
+pub does-as : (L : Layout) (code : Code) (m other : Member) (t : List ℕ) → other .runs t ≡ m .runs t → other .gives ≡ m .gives → Does L code m t
+    → Does L code other t
+does-as L code m other t runs gives does =
+    record {
+      long = ap length runs ∙ does .long;
+      bytes = subst Bytes (sym runs) (does .bytes);
+      contents = λ k p hk hp. rw (runs, gives) (does .contents k p hk hp);
+      kept = λ i hi. subst (λ (l : List ℕ). Kept code (L .disks) (columnOf L t i) (columnOf L l i)) (sym runs) (does .kept i hi);
+    }
+
 -- a member that leaves the stripe and gives nothing
 pub does-nothing : (L : Layout) (code : Code) (m : Member) (t : List ℕ) → Bytes t → GivesNothing m → m .runs t ≡ t → Does L code m t
 does-nothing L code m t bytes nothing e =

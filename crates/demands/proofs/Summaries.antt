@@ -14,7 +14,7 @@ use Rattle.base.proofs.Table.{length-tabulate}
 use Rattle.column.specs.declared.Device.{Device}
 use Rattle.column.specs.declared.Device.the-variants.{Data, P, Q}
 use Rattle.column.specs.declared.Lost.the-variants.{One}
-use Rattle.column.specs.Column.{roleOf, reedSolomon, verdict}
+use Rattle.column.specs.Column.{roleOf, reedSolomon, verdict, rightVerdict}
 use Rattle.column.specs.Loss.{KnownLoss}
 use Rattle.column.proofs.Verdicts.{verdict-zero, verdict-known}
 use Rattle.column.proofs.Witnesses.{one-or-spared}
@@ -31,14 +31,13 @@ use Rattle.stripe.specs.declared.Checked.the-variants.{Summary}
 use Rattle.stripe.specs.Calls.{checkedOf, CheckCall}
 use Rattle.demands.specs.Layout.{layoutOf}
 use Rattle.demands.specs.Series.{EncodedStripe}
-use Rattle.demands.specs.Demand2.{SameColumn, rightVerdict}
+use Rattle.demands.specs.Demand2.{SameColumn}
 use Rattle.demands.specs.Called.{Slice, Loses}
 use Rattle.demands.specs.Summary.{Summarizes}
-use Rattle.demands.proofs.Bytes.{columns-symbols}
+use Rattle.demands.proofs.Bytes.{slice-bytes, columns-symbols}
 use Rattle.demands.proofs.Checks.{verdict-right, verdict-unchanged, verdict-at}
-use Rattle.demands.proofs.Called.{slice-bytes}
 
-right-nonzero : (d : Device) → rightVerdict d ≢ 0
+pub right-nonzero : (d : Device) → rightVerdict d ≢ 0
 right-nonzero (Data z) e = absurd (omega arith)
 right-nonzero P e = suc-ne-zero 0 e
 right-nonzero Q e = suc-ne-zero 1 e

@@ -15,13 +15,13 @@ use Rattle.column.specs.declared.Device.{Device}
 use Rattle.column.specs.declared.Device.the-variants.{Data, P, Q}
 use Rattle.column.specs.declared.Lost.{Lost}
 use Rattle.column.specs.declared.Lost.the-variants.{One, Two}
-use Rattle.column.specs.Column.{roleOf}
+use Rattle.column.specs.Column.{reedSolomon, roleOf}
 use Rattle.column.specs.Loss.{Known, KnownLoss, Spared, overwrite}
-use Rattle.column.proofs.Loss.{known-role, overwrite-one, overwrite-first, overwrite-second, overwrite-spares, overwrite-symbols}
+use Rattle.column.proofs.Loss.{known-role, overwrite-one, overwrite-first, overwrite-second, overwrite-spares}
 use Rattle.shape.specs.declared.Geometry.{Geometry}
 use Rattle.devices.specs.declared.Naming.{Naming}
 use Rattle.devices.specs.declared.Naming.the-variants.{Loss}
-use Rattle.shape.specs.Layout.{size, column}
+use Rattle.shape.specs.Layout.{geometry, size, column}
 use Rattle.shape.specs.Refusals.{library, shapeRefusals, stretchRefusals, encodeRefusal, writeRefusal, WellShaped}
 use Rattle.devices.specs.Refusals.{lossRefusals, rebuildRefusal}
 use Rattle.devices.specs.Codes.{namedBy, namingOf, namedRefusal}
@@ -30,13 +30,14 @@ use Rattle.shape.proofs.Refused.{well-shaped}
 use Rattle.shape.proofs.Accepts.{write-accepts}
 use Rattle.devices.proofs.Accepts.{rebuild-accepts}
 use Rattle.write.specs.Write.{afterWrite}
-use Rattle.stripe.specs.Calls.{afterRebuild, rebuiltBy}
-use Rattle.demands.specs.Series.{Member, GivesNothing, Without, end, keep, drop}
-use Rattle.demands.specs.Members.{writeMember, refusedRebuild, lose, lossMember}
-use Rattle.demands.specs.Called.{Slice, Loses, Step, writes, refuses, refuses-codes, rebuilds, rebuilds-codes}
-use Rattle.demands.proofs.Bytes.{columns-symbols}
-use Rattle.demands.proofs.Accepted.{Lifted, lifted}
-use Rattle.demands.proofs.Called.{slice-bytes, bytes-slice}
+use Rattle.stripe.specs.Calls.{afterRebuild, afterRepair, rebuiltBy}
+use Rattle.demands.specs.Layout.{layoutOf}
+use Rattle.demands.specs.Series.{EncodedStripe, Member, GivesNothing, Without, end, keep, drop}
+use Rattle.demands.specs.Members.{writeMember, refusedRebuild, lose, lossMember, damageMember, refusedRepair}
+use Rattle.demands.specs.Called.{Slice, Loses, Step, writes, refuses, refuses-codes, refuses-repair, rebuilds, rebuilds-codes, repairs}
+use Rattle.demands.proofs.Bytes.{slice-bytes}
+use Rattle.demands.proofs.Accepted.{lose-loses}
+use Rattle.demands.proofs.Repairs.{damage-accepted}
 
 -- ---- what a loss puts where
 module _ (g : Geometry) (junk s : List ℕ) (whole : length s ≡ size g) (i : ℕ) (hi : i < g .b) where
@@ -99,22 +100,11 @@ module _ (g : Geometry) (encoded : Type 0) (s : List ℕ) (fits : encodeRefusal 
 
   -- any loss, with its rebuild by devices or by codes
   module _ (enc : encoded) (slice : Slice s) (lost : Lost) (known : KnownLoss (g .n) lost) (junk : List ℕ) (bytes : Slice junk) where
-    laid : Lifted g (λ i c. overwrite (g .n) lost (column g junk i) c) s (lose g lost junk s)
-    laid = lifted g (λ i c. overwrite (g .n) lost (column g junk i) c) s (shaped .whole) refl
-
     loses : Loses g lost s (lose g lost junk s)
-    loses =
-        record {
-          bytes =
-              bytes-slice (lose g lost junk s)
-              (laid .bytes
-              (λ i. overwrite-symbols 8 (g .n) lost (column g junk i) (column g s i) (columns-symbols g junk (slice-bytes junk bytes) i) (columns-symbols g s (slice-bytes s slice) i)));
-          long = laid .long;
-          spared = λ i r hi hr. lose-spares g junk s (shaped .whole) i hi lost r hr;
-        }
+    loses = lose-loses g lost junk s (shaped .whole) (slice-bytes junk bytes) (slice-bytes s slice)
 
     accepted : rebuildRefusal g (length (lose g lost junk s)) lost ≡ 0
-    accepted = ap (λ (n : ℕ). rebuildRefusal g n lost) (laid .long) ∙ rebuild-accepts g (length s) fits lost known
+    accepted = ap (λ (n : ℕ). rebuildRefusal g n lost) (loses .long) ∙ rebuild-accepts g (length s) fits lost known
 
     pub loss-and-rebuild : Step g encoded s (lossMember g lost (lose g lost junk s)) (afterRebuild g lost (lose g lost junk s))
     loss-and-rebuild = rebuilds lost (lose g lost junk s) enc loses record { result = sym accepted; stripe = refl }
@@ -128,6 +118,20 @@ module _ (g : Geometry) (encoded : Type 0) (s : List ℕ) (fits : encodeRefusal 
           stripe = sym (ap (λ (n : Naming). rebuiltBy g n (lose g lost junk s)) named);
         }
 
+  -- a repair of no disks
+  pub refused-repair : Step g encoded s refusedRepair s
+  unfolding afterRepair
+  refused-repair = refuses-repair (geometry 0 0) 1 (λ e. omega arith) record { result = refl; stripe = refl }
+
+  -- any damage of one device, with its repair
+  pub damage-and-repair : (enc : encoded) → Slice s → EncodedStripe (layoutOf g) reedSolomon s → (d : Device) → KnownLoss (g .n) (One d) → (junk : List ℕ)
+      → Slice junk
+      → Step g encoded s (damageMember g d (lose g (One d) junk s)) (afterRepair g (lose g (One d) junk s))
+  damage-and-repair enc slice is d known junk bytes =
+      let left = loses enc slice (One d) known junk bytes in
+      repairs d (lose g (One d) junk s) enc known left
+      record { result = sym (damage-accepted g s slice fits is d known (lose g (One d) junk s) left); stripe = refl }
+
 -- codes that name a loss of one device, and of two
 pub code-of-a-disk : namingOf 0 65535 ≡ Loss (One (Data 0))
 unfolding namedBy
@@ -140,6 +144,12 @@ codes-of-parities = refl
 -- ---- members that give nothing
 pub loss-gives-nothing : (g : Geometry) (lost : Lost) (junk : List ℕ) → GivesNothing (lossMember g lost junk)
 loss-gives-nothing g lost junk k p = refl
+
+pub damage-gives-nothing : (g : Geometry) (d : Device) (junk : List ℕ) → GivesNothing (damageMember g d junk)
+damage-gives-nothing g d junk k p = refl
+
+pub refused-repair-gives-nothing : GivesNothing refusedRepair
+refused-repair-gives-nothing k p = refl
 
 pub refused-rebuild-gives-nothing : (h : Geometry) (naming : Naming) → GivesNothing (refusedRebuild h naming)
 refused-rebuild-gives-nothing h naming k p = refl

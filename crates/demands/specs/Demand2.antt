@@ -3,8 +3,6 @@ use mathlib.Core.Path.{_≡_}
 use mathlib.Core.List.{List}
 use Prim.Native.Nat.{ℕ, _+_, _<_}
 use lib.ListN.{length}
-use Rattle.column.specs.declared.Device.{Device}
-use Rattle.column.specs.declared.Device.the-variants.{Data, P, Q}
 use Rattle.column.specs.declared.Lost.{Lost}
 use Rattle.column.specs.Column.{reedSolomon}
 use Rattle.column.specs.Loss.{Spared, Meets}
@@ -32,9 +30,3 @@ pub record Rebuilt (g : Geometry) (l : Lost) (s t : List ℕ) : Type 0 where
 -- the stripes s and t have the same column i
 abbrev pub SameColumn : Geometry → ℕ → List ℕ → List ℕ → Type 0
 SameColumn g i s t = (r : ℕ) → r < g .n + 2 → column g s i r ≡ column g t i r
-
--- the verdict that names a device
-abbrev pub rightVerdict : Device → ℕ
-rightVerdict (Data z) = 16 + z
-rightVerdict P = 1
-rightVerdict Q = 2

@@ -4,3 +4,4 @@ pub mod Members
 pub mod Demand2
 pub mod Called
 pub mod Summary
+pub mod Repair

@@ -5,13 +5,12 @@ use mathlib.Core.List.{List}
 use Prim.Native.Nat.{ℕ}
 use Rattle.column.specs.declared.Device.{Device}
 use Rattle.column.specs.declared.Lost.the-variants.{One}
-use Rattle.column.specs.Column.{reedSolomon}
+use Rattle.column.specs.Column.{reedSolomon, rightVerdict}
 use Rattle.column.specs.Loss.{KnownLoss}
 use Rattle.shape.specs.declared.Geometry.{Geometry}
 use Rattle.verdict.specs.Agreement.{Agree, Differ}
 use Rattle.demands.specs.Layout.{layoutOf}
 use Rattle.demands.specs.Series.{EncodedStripe}
-use Rattle.demands.specs.Demand2.{rightVerdict}
 use Rattle.demands.specs.Called.{Slice, Loses}
 
 -- v is the summary of the stripe t, whose columns have the verdicts vs

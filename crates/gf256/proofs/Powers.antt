@@ -8,7 +8,7 @@ use Prim.Native.Nat.{ℕ, zero, suc, _+_, _-_, _*_, _/_, _%_, _≤_, _<_, suc-le
 use native.Mathlib.Nat.{add-zero, zero-add, suc-add, mul-suc, mul-zero, mod-lt, mod-eq-of-lt, div-add-mod', zero-lt-suc, not-suc-le-zero, mul-comm, suc-ne-zero, lt-irrefl, ne-of-lt, lt-trans, le-of-suc-le-suc}
 use native.Mathlib.Numerals.{add-one}
 use native.Mathlib.Omega.{arith}
-use borrow.Author.Tests.{eq-eqb, ne-eqb}
+use borrow.Author.Tests.{eqb-true, eq-eqb, ne-eqb}
 use lib.Dec.{eqb, lit<}
 use lib.Bits.{xor-lt, xor-self}
 use lib.ListN.{getD}
@@ -205,16 +205,17 @@ first-none x zero e misses = refl
 first-none x (suc k) e misses =
     rw (ne-eqb (power 2 e) x (misses e (omega arith)), firstExponent) (first-none x k (suc e) (λ j p. misses j (omega arith)))
 
-pub found-below : (x k e : ℕ) {l : ℕ} → firstExponent x e k ≡ LogarithmIs l → l < e + k
+-- what is found is one of the k, and the exponent of x
+pub found-is : (x k e : ℕ) {l : ℕ} → firstExponent x e k ≡ LogarithmIs l → (l < e + k) × (power 2 l ≡ x)
 unfolding firstExponent
-found-below x zero e is = absurd (suc-ne-zero 0 cc)
-found-below x (suc k) e {l} is = go (eqb (power 2 e) x) (found-below x k (suc e)) is
+found-is x zero e is = absurd (suc-ne-zero 0 cc)
+found-is x (suc k) e {l} is = go (eqb (power 2 e) x) refl (found-is x k (suc e)) is
   where
-    go : (b : Bool) → (firstExponent x (suc e) k ≡ LogarithmIs l → l < suc e + k)
+    go : (b : Bool) → eqb (power 2 e) x ≡ b → (firstExponent x (suc e) k ≡ LogarithmIs l → (l < suc e + k) × (power 2 l ≡ x))
         → elim b [ true ↦ LogarithmIs e | false ↦ firstExponent x (suc e) k ] ≡ LogarithmIs l
-        → l < e + suc k
-    go true later h = let same : e ≡ l = cc in omega arith
-    go false later h = omega (arith, later h)
+        → (l < e + suc k) × (power 2 l ≡ x)
+    go true here later h = let same : e ≡ l = cc in (omega arith, ap (power 2) (sym same) ∙ eqb-true (power 2 e) x here)
+    go false here later h = (omega (arith, later h .0), later h .1)
 
 -- the search below k finds the exponent if it is there
 module _ {x l : ℕ} (has : ExponentOf x l) where

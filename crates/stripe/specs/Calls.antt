@@ -13,7 +13,8 @@ use Rattle.stripe.specs.declared.Checked.{Checked}
 use Rattle.stripe.specs.declared.Checked.the-variants.{Refused, Summary}
 use Rattle.verdict.specs.Summary.{summary}
 use Rattle.compare.specs.Compare.{verdicts, afterCheck}
-use Rattle.stripe.specs.Stripe.{encoded, rebuilt}
+use Rattle.compare.specs.Repair.{repairRefusal}
+use Rattle.stripe.specs.Stripe.{encoded, rebuilt, repaired}
 use Rattle.shape.specs.Refusals.{encodeRefusal, checkRefusal}
 use Rattle.devices.specs.Refusals.{rebuildRefusal}
 
@@ -24,7 +25,10 @@ afterEncode g s = unlessRefused (encodeRefusal g (length s)) (encoded g s) s
 unfoldable pub afterRebuild : Geometry → Lost → List ℕ → List ℕ
 afterRebuild g lost s = unlessRefused (rebuildRefusal g (length s) lost) (rebuilt g lost s) s
 
--- the same where codes name the loss; those that name none are refused
+unfoldable pub afterRepair : Geometry → List ℕ → List ℕ
+afterRepair g s = unlessRefused (repairRefusal g s) (repaired g s) s
+
+-- a rebuild where codes name the loss; those that name none are refused
 abbrev pub rebuiltBy : Geometry → Naming → List ℕ → List ℕ
 rebuiltBy g (Loss lost) s = afterRebuild g lost s
 rebuiltBy g Wrong s = s
@@ -56,3 +60,7 @@ pub record CheckCall (g : Geometry) (s before : List ℕ) (r : Checked) (after :
   pub answer : answerOf r ≡ answered (checkRefusal g (length s) (length before)) (summary (verdicts g s) ∷ [])
   pub result : r ≡ checkedOf (checkRefusal g (length s) (length before)) (summary (verdicts g s))
   pub room : after ≡ afterCheck g s before
+
+pub record RepairCall (g : Geometry) (before : List ℕ) (r : ℕ) (after : List ℕ) : Type 0 where
+  pub result : r ≡ repairRefusal g before
+  pub stripe : after ≡ afterRepair g before

@@ -1,5 +1,6 @@
 // The verdict that P* and Q* give, on one column and on the columns of a chunk, and the summary.
 use chunk::WIDTH;
+use column::Device;
 use gf256::Element;
 use gf256::Inverse;
 use gf256::Logarithm;
@@ -8,6 +9,7 @@ ghost use lib.ListN.{length, getD};
 ghost use Rattle.base.specs.Table.{tabulate};
 ghost use Rattle.column.specs.Column.{verdictOf};
 ghost use Rattle.chunk.specs.Chunk.{width};
+ghost use Rattle.verdict.specs.Faulty.{faultyOf};
 ghost use Rattle.verdict.specs.Summary.{joined, WithSummary};
 ghost use Rattle.verdict.specs.Verdicts.{verdictsOf};
 
@@ -61,6 +63,27 @@ pub fn joined(found: u16, next: u16) -> u16
         return next;
     }
     if found == next { found } else { MIXED }
+}
+
+// What a summary names.
+pub enum Faulty {
+    One(Device),
+    None,
+}
+
+pub fn faulty_device(summary: u16) -> Faulty
+    ensures { λ r. ⌜ r ≡ faultyOf summary ⌝ }
+{
+    if summary == 1 {
+        return Faulty::One(Device::P);
+    }
+    if summary == 2 {
+        return Faulty::One(Device::Q);
+    }
+    if summary < 16 {
+        return Faulty::None;
+    }
+    Faulty::One(Device::Data((summary - 16) as usize))
 }
 
 // The verdicts on the columns of a chunk whose P* and Q* are p and q, one for each place of the
