@@ -8,7 +8,7 @@ use native.Mathlib.Omega.{arith}
 use native.Mathlib.Decide.{decLt, ℕ-discrete}
 use lib.Dec.{eqb}
 use Rattle.gf256.specs.Field.{sum}
-use Rattle.gf256.proofs.Laws.{sum-comm, sum-assoc, sum-self, sum-zero, sum-exchange, sum-cancel, sum-only-zero, xor-lt}
+use Rattle.gf256.proofs.Laws.{sum-comm, sum-self, sum-zero, sum-exchange, sum-only-zero, xor-lt}
 use Rattle.base.specs.Choice.{choose}
 use Rattle.column.specs.Column.{Column, Code, put, parityP, parityQ, Encoded, encodeColumn, adjustColumn, writeColumn, syndromeP, syndromeQ}
 use Rattle.column.proofs.Put.{put-same, put-other, put-back}

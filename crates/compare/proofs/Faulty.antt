@@ -1,13 +1,13 @@
 -- What the summary of a stripe may be, and the device that one that is not unclear names.
 -- Assumes nothing.
 use mathlib.Core.Path.{_≡_, refl, sym, ap, _∙_}
-use mathlib.Core.Logic.{_≢_, _⊎_, inl, inr, ⊎-elim, ⊎-map}
+use mathlib.Core.Logic.{_⊎_, inl, inr, ⊎-elim, ⊎-map}
 use mathlib.Core.Bool.{false}
 use mathlib.Core.List.{List}
 use Prim.Native.Nat.{ℕ, _+_, _-_, _≤_, _<_}
 use native.Mathlib.Omega.{arith}
-use native.Mathlib.Decide.{ℕ-discrete, decLt}
-use borrow.Author.Tests.{eq-eqb, ne-eqb, lt-ltb, le-ltb, eqb-false}
+use native.Mathlib.Decide.{ℕ-discrete}
+use borrow.Author.Tests.{ne-eqb, le-ltb, eqb-false}
 use lib.Dec.{eqb}
 use Rattle.base.proofs.Choice.{either-false}
 use Rattle.base.proofs.Table.{length-tabulate, getD-tabulate}
@@ -18,7 +18,7 @@ use Rattle.column.specs.Loss.{Known}
 use Rattle.column.proofs.Verdicts.{verdict-known}
 use Rattle.shape.specs.declared.Geometry.{Geometry}
 use Rattle.shape.specs.Layout.{column}
-use Rattle.verdict.specs.declared.Faulty.the-variants.{One, None}
+use Rattle.verdict.specs.declared.Faulty.the-variants.{One}
 use Rattle.verdict.specs.Faulty.{faultyOf}
 use Rattle.verdict.specs.Summary.{summary}
 use Rattle.verdict.specs.Agreement.{Agree}

@@ -11,7 +11,7 @@ use Rattle.base.specs.Choice.{choose}
 use Rattle.base.specs.Refusal.{unlessRefused}
 use Rattle.base.proofs.Refused.{first-none}
 use Rattle.column.specs.declared.Lost.{Lost}
-use Rattle.column.specs.declared.Lost.the-variants as Lost
+use Rattle.column.specs.declared.Lost.the-variants.{One}
 use Rattle.column.specs.Column.{reedSolomon}
 use Rattle.column.specs.Loss.{named, overwrite}
 use Rattle.column.proofs.Loss.{spared-of}
@@ -25,15 +25,10 @@ use Rattle.devices.specs.Codes.{namingOf, namedRefusal}
 use Rattle.shape.proofs.Places.{length-lift, lift-at, by-columns}
 use Rattle.shape.proofs.Refused.{well-shaped}
 use Rattle.write.specs.Write.{written, afterWrite}
-use Rattle.verdict.specs.declared.Faulty.{Faulty}
-use Rattle.verdict.specs.declared.Faulty.the-variants.{One, None}
-use Rattle.verdict.specs.Faulty.{faultyOf}
-use Rattle.verdict.specs.Summary.{summary}
-use Rattle.compare.specs.Compare.{verdicts}
 use Rattle.compare.specs.Repair.{repairRefusal}
-use Rattle.stripe.specs.Stripe.{rebuilt, mendedOn, repaired}
+use Rattle.stripe.specs.Stripe.{rebuilt, repaired}
 use Rattle.stripe.specs.Calls.{afterRebuild, afterRepair, rebuiltBy, EncodeCall, RebuildCall, RebuildNamedCall}
-use Rattle.stripe.proofs.Repairs.{repair-refused}
+use Rattle.stripe.proofs.Repairs.{repaired-long, repair-refused}
 use Rattle.demands.specs.Layout.{layoutOf}
 use Rattle.demands.specs.Series.{Bytes, EncodedStripe, Member, run, All, latest, Claim, EverySeries}
 use Rattle.demands.specs.Members.{lose, lossMember, Allowed, write, refused, loss, damage, refused-repair, AllowedFrom}
@@ -57,13 +52,9 @@ rebuild-long : (h : Geometry) (lost : Lost) (s : List ℕ) → length (afterRebu
 unfolding afterRebuild
 rebuild-long h lost s = unless-long (rebuildRefusal h (length s) lost) (rebuilt h lost s) s (length-lift h _ s)
 
-mended-long : (h : Geometry) (f : Faulty) (s : List ℕ) → length (mendedOn h f s) ≡ length s
-mended-long h (One d) s = length-lift h _ s
-mended-long h None s = refl
-
 repair-long : (h : Geometry) (s : List ℕ) → length (afterRepair h s) ≡ length s
 unfolding afterRepair
-repair-long h s = unless-long (repairRefusal h s) (repaired h s) s (mended-long h (faultyOf (summary (verdicts h s))) s)
+repair-long h s = unless-long (repairRefusal h s) (repaired h s) s (repaired-long h s)
 
 named-long : (h : Geometry) (naming : Naming) (s : List ℕ) → length (rebuiltBy h naming s) ≡ length s
 named-long h (Loss lost) s = rebuild-long h lost s
@@ -95,7 +86,7 @@ module _ (g : Geometry) (encoded : Type 0) where
   step-runs {s} shaped (rebuilds-codes first second lost left enc named loses call) =
       by-codes g named call .stripe ∙ ap (afterRebuild g lost) (sym (lose-is g lost s left shaped loses))
   step-runs {s} shaped (refuses-repair h r n call) = call .stripe ∙ repair-refused h s (λ e. n (call .result ∙ e))
-  step-runs {s} shaped (repairs d left enc known loses call) = call .stripe ∙ ap (afterRepair g) (sym (lose-is g (Lost.One d) s left shaped loses))
+  step-runs {s} shaped (repairs d left enc known loses call) = call .stripe ∙ ap (afterRepair g) (sym (lose-is g (One d) s left shaped loses))
 
   step-long : {s t : List ℕ} {m : Member} → Step g encoded s m t → length t ≡ length s
   step-long {s} (writes h disk offset new r hn same call) = ap length (call .stripe) ∙ write-long h disk offset new s

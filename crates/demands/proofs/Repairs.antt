@@ -36,7 +36,7 @@ use Rattle.stripe.proofs.Repairs.{repair-accepted, repair-clean, repair-names, 
 use Rattle.demands.specs.Layout.{layoutOf}
 use Rattle.demands.specs.Series.{EncodedStripe}
 use Rattle.demands.specs.Called.{Slice, Loses}
-use Rattle.demands.specs.Repair.{ChangesOne, Repaired}
+use Rattle.demands.specs.Repair.{Repaired}
 use Rattle.demands.proofs.Bytes.{slice-bytes, columns-symbols}
 use Rattle.demands.proofs.Accepted.{rebuild-lifts}
 use Rattle.demands.proofs.Checks.{verdict-at}

@@ -6,7 +6,8 @@ use devices::Naming;
 use losses::Plan;
 use plans::Asked;
 use shape::Geometry;
-ghost use Rattle.stripe.specs.Calls.{EncodeCall, RebuildCall, RebuildNamedCall, CheckCall};
+use verdict::Faulty;
+ghost use Rattle.stripe.specs.Calls.{EncodeCall, RebuildCall, RebuildNamedCall, CheckCall, RepairCall};
 
 // What a check answers: a refusal's number, or the summary of the verdicts: 0 if all columns are clean,
 // the common verdict if all unclean ones agree, and 4, mixed, otherwise.
@@ -60,4 +61,25 @@ pub fn check(g: Geometry, stripe: &[u8], verdicts: &mut [u16]) -> Checked
         return Checked::Refused(refused);
     }
     Checked::Summary(compare::compare(g, stripe, verdicts))
+}
+
+// Mends what a check finds, where it names one device: P or Q from the data, and a data disk from P. A first pass finds the summary. A
+// clean column has what the equations say, so a rebuild of the whole device changes those with a verdict alone. Two devices that
+// are wrong can look like one; then the stripe left is encoded, and not the one that was written.
+pub fn repair(g: Geometry, stripe: &mut [u8]) -> u8
+    ensures { λ r. ⌜ RepairCall g (now (stripe .entry)) r (now (stripe .exit)) ⌝ }
+{
+    let refused = shape::encode_refusal(g, stripe.len());
+    if refused != 0 {
+        return refused;
+    }
+    let summary = compare::summary_of(g, stripe);
+    let unclear = compare::summary_refusal(summary);
+    if unclear != 0 {
+        return unclear;
+    }
+    match verdict::faulty_device(summary) {
+        Faulty::One(device) => rebuild(g, stripe, Lost::One(device)),
+        Faulty::None => 0,
+    }
 }
