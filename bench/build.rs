@@ -1,7 +1,5 @@
-//! Links anew where the check or the product for the bench changed.
+//! Links anew where the product for the bench changed.
 
 fn main() {
-    for library in ["libbench_check.a", "libbench_product.a"] {
-        println!("cargo:rerun-if-changed=../target/staticlib/{library}");
-    }
+    println!("cargo:rerun-if-changed=../target/staticlib/libbench_product.a");
 }

@@ -1,9 +1,7 @@
-//! Says where the proved libraries are, for the tests that link them.
+//! Says where the proved library is, for the tests that link it.
 
 fn main() {
     let folder = concat!(env!("CARGO_MANIFEST_DIR"), "/../target/staticlib");
     println!("cargo:rustc-link-search=native={folder}");
-    for library in ["libshelf.a", "libbench_check.a"] {
-        println!("cargo:rerun-if-changed={folder}/{library}");
-    }
+    println!("cargo:rerun-if-changed={folder}/libshelf.a");
 }

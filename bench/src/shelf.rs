@@ -1,5 +1,4 @@
-//! Calls of libshelf.a, and of libbench_check.a for the check, on a stripe that stays in one place, so that each
-//! contestant works on the same bytes.
+//! Calls of libshelf.a on a stripe that stays in one place, so that each contestant works on the same bytes.
 
 use outside::random::Random;
 use outside::stripe::LARGEST_BLOCK;
@@ -16,15 +15,8 @@ extern "C" {
     pub fn shelf_encode(n: u64, b: u64, stripe: *mut u8, stripe_len: usize) -> u8;
     pub fn shelf_write(n: u64, b: u64, stripe: *mut u8, stripe_len: usize, disk: u64, offset: u64, bytes: *const u8, count: usize) -> u8;
     pub fn shelf_rebuild(n: u64, b: u64, stripe: *mut u8, stripe_len: usize, first: u64, second: u64) -> u8;
+    pub fn shelf_check(n: u64, b: u64, stripe: *const u8, stripe_len: usize, verdicts: *mut u16, count: usize, summary: *mut u16) -> u8;
 }
-
-#[link(name = "bench_check", kind = "static")]
-extern "C" {
-    pub fn bench_check(n: u64, b: u64, stripe: *const u8, stripe_len: usize, verdicts: *mut u16, count: usize) -> u16;
-}
-
-/// What bench_check returns is a refusal from this number on.
-pub const REFUSAL: u16 = 512;
 
 /// A stripe by its pointer: calls through it may follow one another in any order.
 #[derive(Clone, Copy)]
@@ -88,8 +80,9 @@ impl Stripe {
 
     /// The summary of the verdicts.
     pub fn check(&self) -> u16 {
-        let result = unsafe { bench_check(self.n as u64, self.b as u64, self.start, self.length(), self.room, self.b) };
-        assert!(result < REFUSAL, "refused; n {}, B {}", self.n, self.b);
-        result
+        let (n, b) = (self.n as u64, self.b as u64);
+        let mut summary = 0;
+        self.done(unsafe { shelf_check(n, b, self.start, self.length(), self.room, self.b, &mut summary) });
+        summary
     }
 }

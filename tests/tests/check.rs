@@ -1,34 +1,32 @@
-//! The check against the independent implementation, called with its verdicts' buffer as the library has it: the job has
-//! no room for the largest blocks. The check isn't among what C calls, so libbench_check.a exports it.
+//! The check of libshelf.a against the independent implementation, on all sizes that it takes: the job has no room for the
+//! largest blocks.
 
 use outside::random::Random;
 use outside::shapes::{BLOCKS, DISKS, FEW_DISKS, LARGE_BLOCKS};
 use outside::stripe::{self, LARGEST_BLOCK, MIXED};
 
-#[link(name = "bench_check", kind = "static")]
+#[link(name = "shelf", kind = "static")]
 extern "C" {
-    fn bench_check(n: u64, b: u64, stripe: *const u8, stripe_len: usize, verdicts: *mut u16, count: usize) -> u16;
+    fn shelf_check(n: u64, b: u64, stripe: *const u8, stripe_len: usize, verdicts: *mut u16, count: usize, summary: *mut u16) -> u8;
 }
 
-/// What bench_check returns is this plus a refusal, or below it the summary.
-const REFUSAL: u16 = 512;
-
-/// What stands in the verdicts' buffer before a call, and is no verdict.
+/// What stands in the verdicts' buffer and in the summary before a call, and is neither.
 const UNTOUCHED: u16 = 0xa5a5;
 
-/// Checks with a buffer of so many verdicts, and returns the result and the buffer.
-fn proved(n: u64, b: u64, stripe: &[u8], count: usize) -> (u16, Vec<u16>) {
+/// Checks with a buffer of so many verdicts, and returns the result, the summary and the buffer.
+fn proved(n: u64, b: u64, stripe: &[u8], count: usize) -> (u8, u16, Vec<u16>) {
     let mut verdicts = vec![UNTOUCHED; count];
-    let result = unsafe { bench_check(n, b, stripe.as_ptr(), stripe.len(), verdicts.as_mut_ptr(), count) };
-    (result, verdicts)
+    let mut summary = UNTOUCHED;
+    let result = unsafe { shelf_check(n, b, stripe.as_ptr(), stripe.len(), verdicts.as_mut_ptr(), count, &mut summary) };
+    (result, summary, verdicts)
 }
 
 /// Holds a check that is accepted to the independent implementation; the stripe stays.
 fn compare(n: u64, b: u64, stripe: &[u8]) {
     let before = stripe.to_vec();
     let expected = stripe::check(n, b, stripe).expect("a stripe has its length");
-    let (result, verdicts) = proved(n, b, stripe, b as usize);
-    assert_eq!(result, stripe::summary(&expected), "n {n}, b {b}");
+    let (result, summary, verdicts) = proved(n, b, stripe, b as usize);
+    assert_eq!((result, summary), (0, stripe::summary(&expected)), "n {n}, b {b}");
     let difference = verdicts.iter().zip(&expected).position(|(got, want)| got != want);
     assert_eq!(difference, None, "first wrong column; n {n}, b {b}");
     assert!(stripe == before, "the stripe changed; n {n}, b {b}");
@@ -59,7 +57,7 @@ fn summary_with(random: &mut Random, n: u64, b: u64, changed: &[(u64, u64)]) -> 
         stripe[(device * b + column) as usize] ^= random.within(1, 255) as u8;
     }
     compare(n, b, &stripe);
-    proved(n, b, &stripe, b as usize).0
+    proved(n, b, &stripe, b as usize).1
 }
 
 /// The verdict that names the device at a place.
@@ -154,12 +152,12 @@ fn every_shape_of_large_blocks() {
     }
 }
 
-/// A check that is refused leaves the verdicts.
+/// A check that is refused leaves the verdicts and the summary.
 #[test]
 fn refusals() {
-    let refused = |number: u16, n: u64, b: u64, length: u64, count: u64| {
-        let (result, verdicts) = proved(n, b, &vec![0x5a; length as usize], count as usize);
-        assert_eq!(result, REFUSAL + number, "n {n}, b {b}, length {length}, {count} verdicts");
+    let refused = |number: u8, n: u64, b: u64, length: u64, count: u64| {
+        let (result, summary, verdicts) = proved(n, b, &vec![0x5a; length as usize], count as usize);
+        assert_eq!((result, summary), (number, UNTOUCHED), "n {n}, b {b}, length {length}, {count} verdicts");
         assert!(verdicts.iter().all(|&verdict| verdict == UNTOUCHED), "n {n}, b {b}, length {length}, {count} verdicts");
     };
     refused(1, 0, 1, 2, 1);

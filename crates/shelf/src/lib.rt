@@ -1,9 +1,11 @@
 // What the shelf's controller, written in C, calls: include/shelf.h says it in C's terms. Every
 // number is 64 bits wide, and no premise is put on the caller.
 use shape::Geometry;
+use stripe::Checked;
 ghost use Rattle.stripe.specs.Calls.{EncodeCall, RebuildNamedCall};
 ghost use Rattle.write.specs.Write.{WriteCall};
 ghost use Rattle.shape.specs.Layout.{geometry};
+ghost use Rattle.shelf.specs.Check.{ShelfCheckCall};
 
 #[no_mangle]
 pub extern "C" fn shelf_encode(n: u64, b: u64, stripe: &mut [u8]) -> u8
@@ -43,4 +45,27 @@ pub extern "C" fn shelf_rebuild(n: u64, b: u64, stripe: &mut [u8], first: u64, s
         b: b as usize,
     };
     stripe::rebuild_named(g, stripe, first as usize, second as usize)
+}
+
+#[no_mangle]
+pub extern "C" fn shelf_check(
+    n: u64,
+    b: u64,
+    stripe: &[u8],
+    verdicts: &mut [u16],
+    summary: &mut u16,
+) -> u8
+    ensures { λ r. ⌜ ShelfCheckCall (geometry n b) (now (stripe .entry)) (now (verdicts .entry)) (now (summary .entry)) r (now (verdicts .exit)) (now (summary .exit)) ⌝ }
+{
+    let g = Geometry {
+        n: n as usize,
+        b: b as usize,
+    };
+    match stripe::check(g, stripe, verdicts) {
+        Checked::Refused(k) => k,
+        Checked::Summary(v) => {
+            *summary = v;
+            0
+        }
+    }
 }
