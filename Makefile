@@ -44,7 +44,7 @@ install: lib job
 	install -m 644 target/staticlib/libshelf.a '$(libdir)'
 	install -m 644 include/shelf.h '$(includedir)'
 	printf '%s\n' 'prefix=$(PREFIX)' 'libdir=$${prefix}/lib' 'includedir=$${prefix}/include' '' 'Name: shelf' \
-	    'Description: RAID-6 stripes: encode, small writes, rebuild' 'Version: $(VERSION)' \
+	    'Description: RAID-6 stripes: encode, small writes, check, repair, rebuild' 'Version: $(VERSION)' \
 	    'Cflags: -I"$${includedir}"' 'Libs: -L"$${libdir}" -lshelf' >'$(libdir)/pkgconfig/shelf.pc'
 	chmod 644 '$(libdir)/pkgconfig/shelf.pc'
 

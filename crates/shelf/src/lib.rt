@@ -1,5 +1,5 @@
 // What the shelf's controller, written in C, calls: include/shelf.h says it in C's terms. Every
-// number is 64 bits wide, and no premise is put on the caller.
+// number that is passed is 64 bits wide, and no premise is put on the caller.
 use shape::Geometry;
 use stripe::Checked;
 ghost use Rattle.stripe.specs.Calls.{EncodeCall, RebuildNamedCall};
