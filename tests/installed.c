@@ -1,5 +1,5 @@
-/* A controller's first program, built against an installed copy: encodes a stripe, loses both data disks, rebuilds, and
-   prints the version of its header. */
+/* A controller's first program, built against an installed copy: encodes a stripe, loses both data disks, rebuilds, has one
+   byte spoiled, checks, repairs, and prints the version of its header. */
 #include <shelf.h>
 #include <stdio.h>
 #include <string.h>
@@ -16,6 +16,16 @@ int main(void)
     memset(stripe, 0, 2);
     if (shelf_rebuild(2, 1, stripe, sizeof stripe, 0, 1) != 0 || memcmp(stripe, encoded, sizeof stripe) != 0) {
         puts("rebuild is wrong");
+        return 1;
+    }
+    uint16_t verdict, summary;
+    stripe[1] ^= 0x20;
+    if (shelf_check(2, 1, stripe, sizeof stripe, &verdict, 1, &summary) != 0 || verdict != 17 || summary != 17) {
+        puts("check is wrong");
+        return 1;
+    }
+    if (shelf_repair(2, 1, stripe, sizeof stripe) != 0 || memcmp(stripe, encoded, sizeof stripe) != 0) {
+        puts("repair is wrong");
         return 1;
     }
     char parts[32];

@@ -50,8 +50,23 @@ static void *copy(const uint8_t *from, size_t count)
     return memcpy(to, from, count);
 }
 
+/* One device wrong in every other column of an encoded stripe, checked and repaired. */
+static void mend(uint64_t n, uint64_t b, uint8_t *stripe, uint64_t place, uint16_t *verdicts, uint16_t *summary)
+{
+    size_t length = (size_t)((n + 2) * b), wrong = 0;
+    uint16_t name = place < n ? (uint16_t)(SHELF_VERDICT_DATA + place) : (uint16_t)(SHELF_VERDICT_P + place - n);
+    for (size_t i = 0; i < b; i += 2)
+        stripe[place * b + i] ^= (uint8_t)(1 + i % 255);
+    CHECK(shelf_check(n, b, stripe, length, verdicts, (size_t)b, summary) == SHELF_DONE);
+    CHECK(*summary == name);
+    for (size_t i = 0; i < b; i++)
+        wrong += verdicts[i] != (i % 2 ? SHELF_VERDICT_CLEAN : name);
+    CHECK(wrong == 0);
+    CHECK(shelf_repair(n, b, stripe, length) == SHELF_DONE);
+}
+
 /* Every call on the stripe at this place, against the same call on a copy of its own. */
-static void calls(uint64_t n, uint64_t b, uint8_t *stripe, const uint8_t *bytes, size_t count)
+static void calls(uint64_t n, uint64_t b, uint8_t *stripe, const uint8_t *bytes, size_t count, uint16_t *verdicts, uint16_t *summary)
 {
     size_t length = (size_t)((n + 2) * b);
     uint64_t offset = b - count;
@@ -81,6 +96,12 @@ static void calls(uint64_t n, uint64_t b, uint8_t *stripe, const uint8_t *bytes,
         CHECK(shelf_rebuild(n, b, stripe, length, pairs[k][0], pairs[k][1]) == SHELF_DONE);
         CHECK(memcmp(stripe, apart, length) == 0);
     }
+
+    const uint64_t places[] = {0, n - 1, n, n + 1};
+    for (size_t k = 0; k < sizeof places / sizeof *places; k++) {
+        mend(n, b, stripe, places[k], verdicts, summary);
+        CHECK(memcmp(stripe, apart, length) == 0);
+    }
     free(apart);
     free(new_bytes);
 }
@@ -88,42 +109,60 @@ static void calls(uint64_t n, uint64_t b, uint8_t *stripe, const uint8_t *bytes,
 static void at_the_fences(uint64_t n, uint64_t b)
 {
     size_t length = (size_t)((n + 2) * b), count = (size_t)(b + 1) / 2;
-    struct fenced stripe = fence(length), bytes = fence(count);
+    size_t room = (size_t)b * sizeof(uint16_t);
+    struct fenced stripe = fence(length), bytes = fence(count), verdicts = fence(room), summary = fence(sizeof(uint16_t));
     uint8_t *stripes[2] = {stripe.start + stripe.size - length, stripe.start};
     uint8_t *sources[2] = {bytes.start + bytes.size - count, bytes.start};
+    uint16_t *rooms[2] = {(void *)(verdicts.start + verdicts.size - room), (void *)verdicts.start};
+    uint16_t *summaries[2] = {(void *)(summary.start + summary.size - sizeof(uint16_t)), (void *)summary.start};
     for (int k = 0; k < 2; k++) {
         fill(stripes[k], length, (unsigned)(n + b));
         fill(sources[k], count, (unsigned)(n * b));
         /* the new bytes are only read */
         mprotect(bytes.start, bytes.size, PROT_READ);
-        calls(n, b, stripes[k], sources[k], count);
+        calls(n, b, stripes[k], sources[k], count, rooms[k], summaries[k]);
         mprotect(bytes.start, bytes.size, PROT_READ | PROT_WRITE);
+        /* so is the stripe of a check */
+        mprotect(stripe.start, stripe.size, PROT_READ);
+        CHECK(shelf_check(n, b, stripes[k], length, rooms[k], (size_t)b, summaries[k]) == SHELF_DONE);
+        CHECK(*summaries[k] == SHELF_VERDICT_CLEAN);
+        mprotect(stripe.start, stripe.size, PROT_READ | PROT_WRITE);
     }
     unfence(stripe);
     unfence(bytes);
+    unfence(verdicts);
+    unfence(summary);
 }
 
-/* The stripe starts at every remainder modulo 64, the new bytes at another. */
+/* The stripe starts at every remainder modulo 64, the new bytes at another, and the verdicts at every even one. */
 static void unaligned(uint64_t n, uint64_t b)
 {
     size_t length = (size_t)((n + 2) * b), count = (size_t)(b + 1) / 2;
     uint8_t *room = malloc(length + 64), *more = malloc(count + 64);
-    if (!room || !more)
+    uint16_t *found = malloc((size_t)(b + 32) * sizeof *found), summary[3];
+    if (!room || !more || !found)
         exit(2);
     for (size_t at = 0; at < 64; at++) {
         memset(room, 0xa5, length + 64);
         uint8_t *bytes = more + (at * 5 + 3) % 64;
         fill(room + at, length, (unsigned)at);
         fill(bytes, count, (unsigned)(at + 100));
-        calls(n, b, room + at, bytes, count);
+        memset(found, 0xa5, (size_t)(b + 32) * sizeof *found);
+        memset(summary, 0xa5, sizeof summary);
+        calls(n, b, room + at, bytes, count, found + at % 32, summary + 1);
         size_t kept = 0;
         for (size_t i = 0; i < length + 64; i++)
             if (i < at || i >= at + length)
                 kept += room[i] == 0xa5;
-        CHECK(kept == 64);
+        for (size_t i = 0; i < b + 32; i++)
+            if (i < at % 32 || i >= at % 32 + b)
+                kept += found[i] == 0xa5a5;
+        CHECK(kept == 64 + 32);
+        CHECK(summary[0] == 0xa5a5 && summary[2] == 0xa5a5);
     }
     free(room);
     free(more);
+    free(found);
 }
 
 static const uint64_t DISKS[] = {1, 2, 3, 8, 255};

@@ -1,4 +1,4 @@
-/* What each call does, on the worked figures: encode, write, each row of the rebuild table. */
+/* What each call does, on the worked figures: encode, write, each row of the rebuild table, the check and the repair. */
 #include "check.h"
 #include "shelf.h"
 #include <string.h>
@@ -96,11 +96,68 @@ static void worked_exchange(void)
     CHECK(same(stripe, "\x01\x80\x81\x1c", 4));
 }
 
+/* Expects the verdict on a stripe of one column, and what a repair of it answers and leaves. */
+static void judged(uint8_t *stripe, uint16_t verdict, uint8_t result, const char *after)
+{
+    uint16_t found = 0xa5a5, summary = 0xa5a5;
+    CHECK(shelf_check(3, 1, stripe, 5, &found, 1, &summary) == SHELF_DONE);
+    CHECK(found == verdict && summary == verdict);
+    CHECK(shelf_repair(3, 1, stripe, 5) == result);
+    CHECK(same(stripe, after, 5));
+}
+
+static void check_and_repair(void)
+{
+    const char *encoded = "\x01\x02\x04\x07\x15";
+    const uint16_t names[5] = {SHELF_VERDICT_DATA, SHELF_VERDICT_DATA + 1, SHELF_VERDICT_DATA + 2, SHELF_VERDICT_P, SHELF_VERDICT_Q};
+    for (size_t device = 0; device < 5; device++) {
+        for (unsigned change = 0; change < 256; change++) {
+            uint8_t stripe[5];
+            memcpy(stripe, encoded, 5);
+            stripe[device] ^= (uint8_t)change;
+            judged(stripe, change ? names[device] : SHELF_VERDICT_CLEAN, SHELF_DONE, encoded);
+        }
+    }
+
+    /* two disks, of which no third one can be thought to be wrong: it would be disk 3 */
+    uint8_t unknown[5] = {0x01, 0x02, 0x04, 0x06, 0x1d};
+    judged(unknown, SHELF_VERDICT_UNKNOWN, SHELF_UNCLEAR, "\x01\x02\x04\x06\x1d");
+    /* two disks that look like Q: the stripe is encoded afterwards, and another one */
+    uint8_t mistaken[5] = {0x00, 0x03, 0x04, 0x07, 0x15};
+    judged(mistaken, SHELF_VERDICT_Q, SHELF_DONE, "\x00\x03\x04\x07\x16");
+}
+
+/* One device in some columns: the others stay, and one more in another column is too much. */
+static void repair_of_columns(void)
+{
+    const char *encoded = "\x01\x02\x03\x04\x05\x06\x05\x07\x05\x09\x08\x0f";
+    uint8_t stripe[12];
+    uint16_t verdicts[3], summary;
+    memcpy(stripe, encoded, 12);
+    CHECK(shelf_check(2, 3, stripe, 12, verdicts, 3, &summary) == SHELF_DONE);
+    CHECK(summary == SHELF_VERDICT_CLEAN && verdicts[0] == 0 && verdicts[1] == 0 && verdicts[2] == 0);
+    stripe[3] ^= 0x80;
+    stripe[5] ^= 0x01;
+    CHECK(shelf_check(2, 3, stripe, 12, verdicts, 3, &summary) == SHELF_DONE);
+    CHECK(summary == 17 && verdicts[0] == 17 && verdicts[1] == 0 && verdicts[2] == 17);
+    CHECK(shelf_repair(2, 3, stripe, 12) == SHELF_DONE);
+    CHECK(same(stripe, encoded, 12));
+
+    stripe[3] ^= 0x80;
+    stripe[7] ^= 0x01;
+    CHECK(shelf_check(2, 3, stripe, 12, verdicts, 3, &summary) == SHELF_DONE);
+    CHECK(summary == SHELF_SUMMARY_MIXED && verdicts[0] == 17 && verdicts[1] == SHELF_VERDICT_P && verdicts[2] == 0);
+    CHECK(shelf_repair(2, 3, stripe, 12) == SHELF_UNCLEAR);
+    CHECK(same(stripe, "\x01\x02\x03\x84\x05\x06\x05\x06\x05\x09\x08\x0f", 12));
+}
+
 int main(void)
 {
     RUN(encode_and_write);
     RUN(write_where_nothing_is_encoded);
     RUN(rows);
     RUN(worked_exchange);
+    RUN(check_and_repair);
+    RUN(repair_of_columns);
     return report("rows");
 }

@@ -86,6 +86,17 @@ pub fn rebuild_two_by_trial(column: &mut [u8], first: usize, second: usize) {
     [column[first], column[second]] = found[0];
 }
 
+/// Replaces one symbol by the only one with which both checks are 00, found by trial. There has to be one.
+pub fn mend(column: &mut [u8], device: usize) {
+    let n = column.len() - 2;
+    column[device] = 0;
+    let known = checks(column);
+    let [p, q] = coefficients(device, n);
+    let found: Vec<u8> = (0..=255).filter(|&x| [product(p, x), product(q, x)] == known).collect();
+    assert_eq!(found.len(), 1, "device {device} of {n} data disks");
+    column[device] = found[0];
+}
+
 /// 0 fine, 1 P, 2 Q, 3 beyond, 16 + z data disk z.
 pub fn verdict(column: &[u8]) -> u16 {
     match checks(column) {
@@ -182,14 +193,17 @@ mod tests {
     }
 
     #[test]
-    fn one_changed_device_is_named() {
+    fn one_changed_device_is_named_and_mended() {
         trials(2000, |random| {
             let n = random.within(1, 255);
-            let mut column = encoded(&random.bytes(n));
+            let before = encoded(&random.bytes(n));
+            let mut column = before.clone();
             let device = random.within(0, n + 1);
             column[device] ^= random.within(1, 255) as u8;
             let expected = if device < n { 16 + device } else { device - n + 1 };
             assert_eq!(usize::from(verdict(&column)), expected);
+            mend(&mut column, device);
+            assert_eq!(column, before);
         });
     }
 }

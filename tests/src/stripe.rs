@@ -1,4 +1,4 @@
-//! Encode, write, rebuild and check of a stripe, column by column, with the refusals in their order.
+//! Encode, write, rebuild, check and repair of a stripe, column by column, with the refusals in their order.
 //! Numbers are as wide as the C interface has them.
 
 use crate::column;
@@ -103,7 +103,8 @@ pub fn check(n: u64, b: u64, stripe: &[u8]) -> Result<Vec<u16>, u8> {
     }
 }
 
-/// The summary of a check where the unclean columns do not agree.
+/// The verdict on a column that no one device explains, and the summary of a check where the unclean columns do not agree.
+pub const UNKNOWN: u16 = 3;
 pub const MIXED: u16 = 4;
 
 /// 0 if all columns are clean, the common verdict if all unclean ones agree, and else 4: by the set of the verdicts that
@@ -117,6 +118,27 @@ pub fn summary(verdicts: &[u16]) -> u16 {
         [common] => common,
         _ => MIXED,
     }
+}
+
+/// Mends the device that the summary of the check names, in each column that isn't clean.
+pub fn repair(n: u64, b: u64, stripe: &mut [u8]) -> u8 {
+    let verdicts = match check(n, b, stripe) {
+        Ok(verdicts) => verdicts,
+        Err(refusal) => return refusal,
+    };
+    let device = match summary(&verdicts) {
+        0 => return 0,
+        1 => n as usize,
+        2 => n as usize + 1,
+        UNKNOWN | MIXED => return 9,
+        named => usize::from(named - 16),
+    };
+    change(b, stripe, 0..b as usize, |i, column| {
+        if verdicts[i] != 0 {
+            column::mend(column, device);
+        }
+    });
+    0
 }
 
 #[cfg(test)]
@@ -178,6 +200,29 @@ mod tests {
         stripe[2] ^= 8;
         assert_eq!(check(2, 3, &stripe), Ok(vec![0, 1, 16]));
         assert_eq!(check(2, 3, &stripe[1..]), Err(3));
+    }
+
+    #[test]
+    fn the_repair_mends_one_device_alone() {
+        let mut encoded = [1, 0, 5, 0x80, 9, 6, 0, 0, 0, 0, 0, 0];
+        assert_eq!(encode(2, 3, &mut encoded), 0);
+        for device in 0..4 {
+            let mut stripe = encoded;
+            stripe[3 * device] ^= 0x11;
+            stripe[3 * device + 2] ^= 0x80;
+            assert_eq!(repair(2, 3, &mut stripe), 0);
+            assert_eq!(stripe, encoded);
+        }
+        // two devices in two columns, and in one column
+        for (at, other) in [(0, 4), (0, 3)] {
+            let mut stripe = encoded;
+            stripe[at] ^= 1;
+            stripe[other] ^= 3;
+            let before = stripe;
+            assert_eq!(repair(2, 3, &mut stripe), 9);
+            assert_eq!(stripe, before);
+        }
+        assert_eq!(repair(2, 3, &mut encoded[1..]), 3);
     }
 
     #[test]
