@@ -2,7 +2,7 @@
 // number that is passed is 64 bits wide, and no premise is put on the caller.
 use shape::Geometry;
 use stripe::Checked;
-ghost use Rattle.stripe.specs.Calls.{EncodeCall, RebuildNamedCall};
+ghost use Rattle.stripe.specs.Calls.{EncodeCall, RebuildNamedCall, RepairCall};
 ghost use Rattle.write.specs.Write.{WriteCall};
 ghost use Rattle.shape.specs.Layout.{geometry};
 ghost use Rattle.shelf.specs.Check.{ShelfCheckCall};
@@ -68,4 +68,15 @@ pub extern "C" fn shelf_check(
             0
         }
     }
+}
+
+#[no_mangle]
+pub extern "C" fn shelf_repair(n: u64, b: u64, stripe: &mut [u8]) -> u8
+    ensures { λ r. ⌜ RepairCall (geometry n b) (now (stripe .entry)) r (now (stripe .exit)) ⌝ }
+{
+    let g = Geometry {
+        n: n as usize,
+        b: b as usize,
+    };
+    stripe::repair(g, stripe)
 }
