@@ -1,4 +1,4 @@
-//! Measures libshelf.a, and the library's check, beside a plain encoder in Rust and, where they are there, ISA-L and
+//! Measures libshelf.a beside a plain encoder in Rust and, where they are there, ISA-L and
 //! Linux's rebuild of two data disks; and the library's product of two bytes, beside the way by powers and logarithms in plain
 //! Rust and, where it is there, ISA-L's.
 //!
@@ -61,6 +61,15 @@ fn verify_check(mut stripe: Stripe) {
     assert!(right, "check is wrong; n {n}, B {b}");
 }
 
+/// Holds the repair to the independent implementation, on what the stripe holds, which is damaged on one device at most.
+fn verify_repair(mut stripe: Stripe) {
+    let (n, b) = (stripe.n as u64, stripe.b as u64);
+    let mut wanted = stripe.bytes().to_vec();
+    assert_eq!(stripe::repair(n, b, &mut wanted), 0);
+    stripe.repair();
+    assert!(stripe.bytes() == wanted, "repair is wrong; n {n}, B {b}");
+}
+
 /// Holds every contestant to the independent implementation, and leaves the stripe encoded.
 fn verify(random: &mut Random, mut stripe: Stripe, isal: Option<isal::Call>, linux: Option<linux::Call>) {
     let (n, b) = (stripe.n as u64, stripe.b as u64);
@@ -101,6 +110,12 @@ fn verify(random: &mut Random, mut stripe: Stripe, isal: Option<isal::Call>, lin
     }
     verify_check(stripe);
     stripe.bytes().copy_from_slice(&expected);
+    verify_repair(stripe);
+    for place in [first as usize, stripe.n, stripe.n + 1] {
+        stripe.block(place).copy_from_slice(&random.bytes(b as usize));
+        verify_repair(stripe);
+        assert!(stripe.bytes() == expected, "a repair gives another stripe; n {n}, B {b}");
+    }
     if let Some(call) = linux {
         for (disk, block) in (0..).zip(stripe.bytes().chunks_exact_mut(b as usize)) {
             if disk == first || disk == second {

@@ -16,6 +16,7 @@ extern "C" {
     pub fn shelf_write(n: u64, b: u64, stripe: *mut u8, stripe_len: usize, disk: u64, offset: u64, bytes: *const u8, count: usize) -> u8;
     pub fn shelf_rebuild(n: u64, b: u64, stripe: *mut u8, stripe_len: usize, first: u64, second: u64) -> u8;
     pub fn shelf_check(n: u64, b: u64, stripe: *const u8, stripe_len: usize, verdicts: *mut u16, count: usize, summary: *mut u16) -> u8;
+    pub fn shelf_repair(n: u64, b: u64, stripe: *mut u8, stripe_len: usize) -> u8;
 }
 
 /// A stripe by its pointer: calls through it may follow one another in any order.
@@ -51,6 +52,12 @@ impl Stripe {
         unsafe { std::slice::from_raw_parts_mut(self.start, self.length()) }
     }
 
+    /// The block at a place: the data disks, then P, then Q.
+    pub fn block(&mut self, place: usize) -> &mut [u8] {
+        let b = self.b;
+        &mut self.bytes()[place * b..][..b]
+    }
+
     pub fn verdicts(&self) -> &[u16] {
         unsafe { std::slice::from_raw_parts(self.room, self.b) }
     }
@@ -76,6 +83,10 @@ impl Stripe {
     pub fn write(&self, disk: u64, bytes: &[u8]) {
         let (n, b) = (self.n as u64, self.b as u64);
         self.done(unsafe { shelf_write(n, b, self.start, self.length(), disk, 0, bytes.as_ptr(), bytes.len()) });
+    }
+
+    pub fn repair(&self) {
+        self.done(unsafe { shelf_repair(self.n as u64, self.b as u64, self.start, self.length()) });
     }
 
     /// The summary of the verdicts.

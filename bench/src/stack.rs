@@ -1,6 +1,6 @@
 //! How much stack a call uses: it runs on a painted stack of its own, and what it wrote to is counted.
 
-use crate::shelf::{shelf_check, shelf_encode, shelf_rebuild, shelf_write, Stripe, BLOCK, LARGEST};
+use crate::shelf::{shelf_check, shelf_encode, shelf_rebuild, shelf_repair, shelf_write, Stripe, BLOCK, LARGEST};
 use outside::random::Random;
 use outside::stripe::{NONE, P, Q};
 use std::arch::asm;
@@ -36,13 +36,15 @@ fn used(function: usize, arguments: [u64; 8], paint: u8) -> (u64, usize) {
     (result, top - room.0.iter().position(|&byte| byte != paint).expect("a call writes its return address"))
 }
 
-/// The most over two paints and some shapes, of calls that are done.
-fn most(calls: impl Fn(Stripe) -> Vec<(usize, [u64; 8])>) -> usize {
+/// The most over two paints and some shapes, of calls that are done. Before each the stripe is made ready, by the call's number.
+fn most(ready: impl Fn(Stripe, usize), calls: impl Fn(Stripe) -> Vec<(usize, [u64; 8])>) -> usize {
     let mut random = Random::new(2);
     let mut most = 0;
     for (n, b) in [(1, 1), (2, 7), (8, BLOCK), (255, BLOCK), (1, LARGEST), (8, LARGEST), (255, LARGEST)] {
-        for (function, arguments) in calls(Stripe::random(&mut random, n, b)) {
+        let stripe = Stripe::random(&mut random, n, b);
+        for (number, (function, arguments)) in calls(stripe).into_iter().enumerate() {
             for paint in [0x5a, 0xc3] {
+                ready(stripe, number);
                 let (result, bytes) = used(function, arguments, paint);
                 assert_eq!(result as u8, 0, "refused; n {n}, B {b}");
                 most = most.max(bytes);
@@ -59,12 +61,13 @@ pub fn print() {
         [n, b, start, length, rest[0], rest[1], rest[2], rest[3]]
     };
     let bytes = Random::new(3).bytes(LARGEST);
-    let encode = most(|stripe| vec![(shelf_encode as *const () as usize, call(stripe, [0; 4]))]);
-    let write = most(|stripe| {
+    let any = |_: Stripe, _: usize| {};
+    let encode = most(any, |stripe| vec![(shelf_encode as *const () as usize, call(stripe, [0; 4]))]);
+    let write = most(any, |stripe| {
         let last = stripe.n as u64 - 1;
         vec![(shelf_write as *const () as usize, call(stripe, [last, 0, bytes.as_ptr() as u64, stripe.b as u64]))]
     });
-    let rebuild = most(|stripe| {
+    let rebuild = most(any, |stripe| {
         let devices = [0, stripe.n as u64 - 1, P, Q];
         let pairs = devices.into_iter().flat_map(|first| devices.into_iter().chain([NONE]).map(move |second| (first, second)));
         let pairs = pairs.filter(|(first, second)| first != second);
@@ -73,13 +76,22 @@ pub fn print() {
     // random bytes, so that the check finds differences
     let mut summary = 0u16;
     let summary = &raw mut summary as u64;
-    let check = most(|stripe| {
+    let check = most(any, |stripe| {
         let rest = [stripe.room as u64, stripe.b as u64, summary, 0];
         vec![(shelf_check as *const () as usize, call(stripe, rest))]
     });
+    // each of some devices wrong in all columns
+    let devices = |stripe: Stripe| [0, stripe.n - 1, stripe.n, stripe.n + 1];
+    let spoiled = |mut stripe: Stripe, number: usize| {
+        stripe.encode();
+        stripe.block(devices(stripe)[number]).iter_mut().for_each(|byte| *byte ^= 0x40);
+    };
+    let repair = most(spoiled, |stripe| devices(stripe).map(|_| (shelf_repair as *const () as usize, call(stripe, [0; 4]))).to_vec());
     println!("| call | bytes of stack |");
     println!("|---|---|");
-    for (name, most) in [("shelf_encode", encode), ("shelf_write", write), ("shelf_rebuild", rebuild), ("shelf_check", check)] {
+    let rows =
+        [("shelf_encode", encode), ("shelf_write", write), ("shelf_rebuild", rebuild), ("shelf_check", check), ("shelf_repair", repair)];
+    for (name, most) in rows {
         println!("| `{name}` | {most} |");
         assert!(most <= LIMIT, "{name} uses more than {LIMIT} bytes");
     }

@@ -14,8 +14,14 @@ const GENERATE: &str = "pq_gen_sse";
 const CHECK: &str = "pq_check_sse";
 const DATA2: &str = "Linux data2";
 const CLEAN: &str = "check of a clean stripe";
+const CLEAN_REPAIR: &str = "repair of a clean stripe";
+const SPOILED_REPAIR: &str = "repair of a stripe with one spoiled disk";
+const SPOILING: &str = "copy of one block";
 const TWO: &str = "rebuild of two data disks";
 const WRITE: &str = "write of 4,096 bytes, last data disk";
+
+/// With the largest blocks this many data disks make a stripe of 1 MiB.
+const MEBIBYTE: usize = 14;
 
 /// A block that ends in a part of a chunk.
 const ODD: usize = BLOCK - 1;
@@ -74,10 +80,21 @@ fn spoiled(random: &mut Random, n: usize, b: usize) -> Stripe {
     stripe
 }
 
+/// A repair of an encoded stripe with any bytes on one device. It heals the stripe, so the bytes are put back before each call.
+fn repair(random: &mut Random, stripe: Stripe, place: usize) -> Box<dyn Fn()> {
+    let noise = random.bytes(stripe.b);
+    stripe.encode();
+    Box::new(move || {
+        plain::copy(&noise, { stripe }.block(place));
+        stripe.repair();
+    })
+}
+
 /// What encode, check and rebuild of two data disks are to reach.
 fn targets(n: usize, b: usize) -> [Target; 3] {
     match (n, b) {
         (_, BLOCK) => [Target::Of(1.0, GENERATE), Target::Of(0.6, CHECK), Target::Of(1.0, DATA2)],
+        (MEBIBYTE, LARGEST) => [Target::Beside(GENERATE), Target::Beside(CHECK), Target::Beside(DATA2)],
         (8, LARGEST) => [Target::Of(0.95, GENERATE), Target::Of(0.95, CHECK), Target::Of(1.0, DATA2)],
         (_, LARGEST) => [Target::Of(0.95, GENERATE), Target::Beside(CHECK), Target::Beside(DATA2)],
         (_, ODD) => [Target::Own(0.9), Target::Alone, Target::Alone],
@@ -112,6 +129,19 @@ fn rows(random: &mut Random, isal: Option<Isal>, linux: Option<Linux>, n: usize,
         add("write of 50 bytes", data * 50 / b, Target::Beside(WRITE), write(random, stripe, 50));
         let stripe = spoiled(random, n, b);
         add("check, a wrong byte in every chunk", data, Target::Beside(CLEAN), Box::new(move || assert_ne!(stripe.check(), 0)));
+        for (call, place) in [("repair of a stripe with a spoiled P", n), ("repair of a stripe with a spoiled Q", n + 1)] {
+            let stripe = Stripe::random(random, n, b);
+            add(call, data, Target::Beside("encode"), repair(random, stripe, place));
+        }
+    }
+    if (n, b) == (MEBIBYTE, LARGEST) {
+        add(CLEAN_REPAIR, data, Target::Of(1.0 / 1.1, CLEAN), Box::new(move || stripe.repair()));
+    }
+    if b == BLOCK || (n, b) == (8, LARGEST) {
+        let stripe = Stripe::random(random, n, b);
+        add(SPOILED_REPAIR, data, Target::Of(0.3, "encode"), repair(random, stripe, first as usize));
+        let noise = random.bytes(b);
+        add(SPOILING, b, Target::Peer, Box::new(move || plain::copy(&noise, { stripe }.block(first as usize))));
     }
     if b >= BLOCK {
         let room = Stripe::random(random, n, b);
@@ -141,7 +171,8 @@ fn shown(ratio: Option<f64>) -> String {
 
 pub fn print(isal: Option<Isal>, linux: Option<Linux>) {
     let mut random = Random::new(1);
-    let shapes = [(8, BLOCK), (8, ODD), (8, 100), (8, 32), (16, BLOCK), (16, 32), (255, BLOCK), (8, LARGEST), (255, LARGEST)];
+    let shapes =
+        [(8, BLOCK), (8, ODD), (8, 100), (8, 32), (16, BLOCK), (16, 32), (255, BLOCK), (8, LARGEST), (MEBIBYTE, LARGEST), (255, LARGEST)];
     let mut rows: Vec<Row> = shapes.into_iter().flat_map(|(n, b)| rows(&mut random, isal, linux, n, b)).collect();
     let seconds = best(TURNS, &rows.iter().map(|row| &*row.run).collect::<Vec<_>>());
     for (row, seconds) in rows.iter_mut().zip(seconds) {
@@ -200,5 +231,7 @@ pub fn print(isal: Option<Isal>, linux: Option<Linux>) {
     println!("A call's data are n * B bytes, for a write of a block too, so that its ratio is that of the times; a write of less has");
     println!("its share of them. 1 MB is 1,000,000 bytes. The plain read sums up the data as words of 64 bits, and the plain copy");
     println!("puts them elsewhere: an encode reads them once, too, and writes 2 * B bytes.");
+    println!("A repair of a spoiled stripe heals it, so the spoiled block is put back before each call, and that is counted: it is the");
+    println!("copy of one block. 14 disks of 65,536 bytes make a stripe of 1 MiB.");
     println!("Of the {compared} rows that could be compared, {enough} reach what is wanted.");
 }
