@@ -25,7 +25,7 @@ use Rattle.column.proofs.Verdicts.{verdict-zero, told-p, told-q, told-d
 
 -- a clean column is not touched, whatever device is named
 pub mend-clean : (n : ℕ) (d : Device) (c : Column) → verdict n c ≡ 0 → mendColumn n d c ≡ c
-mend-clean n d c clean = rw (eq-eqb (verdict n c) 0 clean)
+mend-clean n d c clean = ap (λ (b : Bool). choose b c (rebuildColumn reedSolomon n (One d) c)) (eq-eqb (verdict n c) 0 clean)
 
 module _ (n : ℕ) (few : n ≤ 255) (d : Device) (known : Known n d) (c : Column) where
   -- a clean column is encoded, and its rebuild gives what stands there

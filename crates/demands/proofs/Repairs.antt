@@ -36,7 +36,7 @@ use Rattle.stripe.proofs.Repairs.{repair-accepted, repair-clean, repair-names, 
 use Rattle.demands.specs.Layout.{layoutOf}
 use Rattle.demands.specs.Series.{EncodedStripe}
 use Rattle.demands.specs.Called.{Slice, Loses}
-use Rattle.demands.specs.Repair.{Repaired}
+use Rattle.demands.specs.Repair.{Repaired, GivesBack}
 use Rattle.demands.proofs.Bytes.{slice-bytes, columns-symbols}
 use Rattle.demands.proofs.Accepted.{rebuild-lifts}
 use Rattle.demands.proofs.Checks.{verdict-at}
@@ -79,17 +79,19 @@ module _ (g : Geometry) (s : List ℕ) (slice : Slice s) (fits : encodeRefusal g
   pub damage-rebuilt : afterRepair g t ≡ afterRebuild g (One d) t
   damage-rebuilt = repair-restores ∙ sym rebuild-restores
 
-  -- the call: its result is 0, and it gives the encoded stripe back
-  pub repair-of-damage : {r : ℕ} {u : List ℕ} → RepairCall g t r u → (r ≡ 0) × (u ≡ s)
-  repair-of-damage call = (call .result ∙ damage-accepted, call .stripe ∙ repair-restores)
+-- the call
+module _ (g : Geometry) (t : List ℕ) {r : ℕ} {u : List ℕ} (fits : encodeRefusal g (length t) ≡ 0) (call : RepairCall g t r u) where
+  pub repair-gives-back : GivesBack g t r u
+  repair-gives-back s slice encoded d known loses =
+      let before : encodeRefusal g (length s) ≡ 0 = ap (encodeRefusal g) (sym (loses .long)) ∙ fits in (
+        call .result ∙ damage-accepted g s slice before encoded d known t loses,
+        call .stripe ∙ repair-restores g s slice before encoded d known t loses,
+      )
 
--- an encoded stripe is left as it is
-pub repair-of-encoded : (g : Geometry) (s : List ℕ) {r : ℕ} {t : List ℕ} → Slice s → encodeRefusal g (length s) ≡ 0
-    → EncodedStripe (layoutOf g) reedSolomon s
-    → RepairCall g s r t
-    → (r ≡ 0) × (t ≡ s)
-repair-of-encoded g s slice fits encoded =
-    repair-of-damage g s slice fits encoded P tt s (record { bytes = slice; long = refl; spared = λ i r hi hr spared. refl })
+  -- an encoded stripe is left as it is
+  pub repair-of-encoded : Slice t → EncodedStripe (layoutOf g) reedSolomon t → (r ≡ 0) × (u ≡ t)
+  repair-of-encoded slice encoded =
+      repair-gives-back t slice encoded P tt record { bytes = slice; long = refl; spared = λ i r hi hr spared. refl }
 
 -- ---- an accepted repair of any stripe
 right-unmixed : (d : Device) → rightVerdict d ≢ mixed

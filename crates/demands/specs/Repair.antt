@@ -1,4 +1,4 @@
--- What an accepted repair promises (2026-02).
+-- What a repair promises (2026-02).
 use mathlib.Core.Path.{_≡_}
 use mathlib.Core.Logic.{_⊎_}
 use mathlib.Core.List.{List}
@@ -15,7 +15,7 @@ use Rattle.stripe.specs.Calls.{RepairCall}
 use Rattle.demands.specs.Layout.{layoutOf}
 use Rattle.demands.specs.Series.{EncodedStripe}
 use Rattle.demands.specs.Demand2.{SameColumn}
-use Rattle.demands.specs.Called.{Slice}
+use Rattle.demands.specs.Called.{Slice, Loses}
 
 -- the summary of s names the device d of the stripe, and t differs from s on d alone
 pub record ChangesOne (g : Geometry) (s t : List ℕ) (d : Device) : Type 0 where
@@ -34,3 +34,10 @@ pub record Repaired (g : Geometry) (s t : List ℕ) : Type 0 where
   -- column i depends on column i and the summary alone
   pub local : (u v : List ℕ) → Slice u → RepairCall g u 0 v → summary (verdicts g u) ≡ summary (verdicts g s) → (i : ℕ) → i < g .b → SameColumn g i u s
       → SameColumn g i v t
+
+-- A repair of the stripe t, which answers r and leaves u: where t was an encoded stripe s and at most one device has been altered since, on any
+-- columns and with any bytes, it answers 0 and gives s back.
+abbrev pub GivesBack : Geometry → List ℕ → ℕ → List ℕ → Type 0
+GivesBack g t r u =
+    (s : List ℕ) → Slice s → EncodedStripe (layoutOf g) reedSolomon s → (d : Device) → KnownLoss (g .n) (One d) → Loses g (One d) s t
+    → (r ≡ 0) × (u ≡ s)
