@@ -10,7 +10,7 @@ use lib.ListN.{length, getD}
 use Rattle.base.specs.Table.{tabulate}
 use Rattle.base.proofs.Table.{getD-tabulate, tabulate-same}
 use Rattle.chunk.specs.Chunk.{width, each, stored}
-pub use Rattle.chunk.proofs.Zeros.{all-zero-at}
+pub use Rattle.chunk.proofs.Zeros.{or-zero, all-zero-at, zero-all}
 
 pub each-at : (f : ℕ → ℕ) (j : ℕ) → j < width → getD (each f) j 0 ≡ f j
 each-at f j h = getD-tabulate width f j 0 h

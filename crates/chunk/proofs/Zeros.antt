@@ -1,6 +1,6 @@
 -- The laws of the test for zeros: one place more, and what it says of each place.
 -- Assumes nothing.
-use mathlib.Core.Path.{_≡_, ap}
+use mathlib.Core.Path.{_≡_, refl, ap}
 use mathlib.Core.Bool.{true}
 use mathlib.Core.List.{List}
 use mathlib.Core.Logic.{⊎-elim}
@@ -16,7 +16,7 @@ use Rattle.base.proofs.Choice.{both-true}
 use Rattle.chunk.specs.Chunk.{width, zeros, allZero}
 
 -- an or is 0 just where both are
-or-zero : (r v : ℕ) → eqb (bitOr r v) 0 ≡ both (eqb v 0) (eqb r 0)
+pub or-zero : (r v : ℕ) → eqb (bitOr r v) 0 ≡ both (eqb v 0) (eqb r 0)
 or-zero r zero = ap (λ (x : ℕ). eqb x 0) (or-zero-r r)
 or-zero r (suc v) =
     rw (ne-eqb (suc v) 0 (suc-ne-zero v))
@@ -39,3 +39,13 @@ zeros-at p q (suc n) e j h =
 
 pub all-zero-at : (p q : List ℕ) → allZero p q ≡ true → (j : ℕ) → j < width → (getD p j 0 ≡ 0) × (getD q j 0 ≡ 0)
 all-zero-at p q = zeros-at p q width
+
+zeros-all : (p q : List ℕ) (n : ℕ) → ((j : ℕ) → j < n → (getD p j 0 ≡ 0) × (getD q j 0 ≡ 0)) → zeros n p q ≡ true
+unfolding zeros
+zeros-all p q zero each = refl
+zeros-all p q (suc n) each =
+    let here = each n (omega arith) in
+    rw (here .0, here .1) (zeros-all p q n (λ j h. each j (omega arith)))
+
+pub zero-all : (p q : List ℕ) → ((j : ℕ) → j < width → (getD p j 0 ≡ 0) × (getD q j 0 ≡ 0)) → allZero p q ≡ true
+zero-all p q = zeros-all p q width

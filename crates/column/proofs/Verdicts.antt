@@ -45,7 +45,7 @@ located-nonzero (LogarithmIs z) e = absurd (omega arith)
 located-nonzero NoLogarithm e = suc-ne-zero 2 e
 
 -- a verdict of 0 is the first row's
-clean-only : (n p q : ℕ) → verdictOf n p q ≡ 0 → (p ≡ 0) × (q ≡ 0)
+pub clean-only : (n p q : ℕ) → verdictOf n p q ≡ 0 → (p ≡ 0) × (q ≡ 0)
 clean-only n p q e = go (ℕ-discrete p 0) (ℕ-discrete q 0)
   where
     go : Dec (p ≡ 0) → Dec (q ≡ 0) → (p ≡ 0) × (q ≡ 0)
@@ -53,6 +53,20 @@ clean-only n p q e = go (ℕ-discrete p 0) (ℕ-discrete q 0)
     go (yes a) (no b) = absurd (suc-ne-zero 1 (sym (row-q n q b) ∙ ap (λ (x : ℕ). verdictOf n x q) (sym a) ∙ e))
     go (no a) (yes b) = absurd (suc-ne-zero 0 (sym (row-p n p a) ∙ ap (verdictOf n p) (sym b) ∙ e))
     go (no a) (no b) = absurd (located-nonzero (firstExponent (quotient q p a) 0 n) (sym (row-both n p q a b) ∙ e))
+
+-- (c b)/b is c
+quotient-product : (c b : ℕ) (other : b ≢ 0) → c < 256 → b < 256 → quotient (product c b) b other ≡ c
+quotient-product c b other hc hb =
+    product-assoc c b (reciprocal b other)
+    ∙ ap (product c) (product-inverse b hb other)
+    ∙ product-comm c 1
+    ∙ product-one c hc
+
+-- the verdict where Q* is c P*: it does not depend on P*
+pub row-multiple : (n p c : ℕ) → p ≢ 0 → p < 256 → c ≢ 0 → c < 256 → verdictOf n p (product c p) ≡ located (firstExponent c 0 n)
+row-multiple n p c hp bp hc bc =
+    row-both n p (product c p) hp (product-nonzero c p bc bp hc hp)
+    ∙ ap (λ (v : ℕ). located (firstExponent v 0 n)) (quotient-product c p hp bc bp)
 
 module _ (n : ℕ) (few : n ≤ 255) (c : Column) where
   -- the verdict is 0 exactly where both equations hold
@@ -127,11 +141,7 @@ module _ (n : ℕ) (few : n ≤ 255) (c : Column) where
         -- Q*/P* = g^z
         pub equation26 : quotient Q* P* p-nonzero ≡ power 2 z
         equation26 =
-            ap (λ (q : ℕ). quotient q P* p-nonzero) equation25
-            ∙ product-assoc (power 2 z) P* (reciprocal P* p-nonzero)
-            ∙ ap (product (power 2 z)) (product-inverse P* p-byte p-nonzero)
-            ∙ product-comm (power 2 z) 1
-            ∙ product-one (power 2 z) (power-lt 2 z)
+            ap (λ (q : ℕ). quotient q P* p-nonzero) equation25 ∙ quotient-product (power 2 z) P* p-nonzero (power-lt 2 z) p-byte
 
         -- z = log(Q*/P*)
         pub equation27 : logarithm (quotient Q* P* p-nonzero) ≡ LogarithmIs z

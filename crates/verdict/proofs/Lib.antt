@@ -1,2 +1,3 @@
 pub mod Summary
 pub mod Agreement
+pub mod Common

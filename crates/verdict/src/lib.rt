@@ -4,14 +4,16 @@ use column::Device;
 use gf256::Element;
 use gf256::Inverse;
 use gf256::Logarithm;
+ghost use mathlib.Core.Logic.{_≢_};
 ghost use mathlib.Core.Path.{_≡_};
 ghost use lib.ListN.{length, getD};
 ghost use Rattle.base.specs.Table.{tabulate};
-ghost use Rattle.column.specs.Column.{verdictOf};
-ghost use Rattle.chunk.specs.Chunk.{width};
+ghost use Rattle.gf256.specs.Field.{firstExponent};
+ghost use Rattle.column.specs.Column.{verdictOf, located};
+ghost use Rattle.chunk.specs.Chunk.{width, each};
 ghost use Rattle.verdict.specs.Faulty.{faultyOf};
-ghost use Rattle.verdict.specs.Summary.{joined, WithSummary};
-ghost use Rattle.verdict.specs.Verdicts.{verdictsOf};
+ghost use Rattle.verdict.specs.Summary.{mixed, joined, WithSummary};
+ghost use Rattle.verdict.specs.Verdicts.{verdictsOf, unclean};
 
 // The four rows of the paper's table, and equation 27. Neither P* nor Q* is 00 where they are divided,
 // so P* has an inverse and the quotient a logarithm.
@@ -28,16 +30,24 @@ pub fn verdict_of(n: usize, p: Element, q: Element) -> u16
         return 1;
     }
     match p.inverse() {
-        Inverse::Is(over_p) => match q.product(over_p).logarithm() {
-            Logarithm::Is(z) => {
-                if n <= z as usize {
-                    return 3;
-                }
-                (16 + z) as u16
-            }
-            Logarithm::None => never(),
-        },
+        Inverse::Is(over_p) => located(n, q.product(over_p)),
         Inverse::None => never(),
+    }
+}
+
+// The data disk with this Q*/P*, and 3 where there is none.
+fn located(n: usize, ratio: Element) -> u16
+    requires { ⌜ ratio .0 ≢ 0 ⌝ }
+    ensures { λ r. ⌜ r ≡ located (firstExponent (ratio .0) 0 n) ⌝ }
+{
+    match ratio.logarithm() {
+        Logarithm::Is(z) => {
+            if n <= z as usize {
+                return 3;
+            }
+            (16 + z) as u16
+        }
+        Logarithm::None => never(),
     }
 }
 
@@ -91,15 +101,13 @@ pub fn faulty_device(summary: u16) -> Faulty
 pub fn verdicts_of(n: usize, p: &[u8; WIDTH], q: &[u8; WIDTH], room: &mut [u16]) -> u16
     ensures { λ r. ⌜ WithSummary (verdictsOf n (now (p .entry)) (now (q .entry)) (length (now (room .entry)))) r (now (room .exit)) ⌝ }
 {
-    let p_bytes: &[u8] = p;
-    let q_bytes: &[u8] = q;
     if room.len() == WIDTH {
         if chunk::are_zero(p, q) {
             fill_zero(room);
             return 0;
         }
     }
-    verdicts_by_place(n, p_bytes, q_bytes, room)
+    verdicts_by_place(n, p, q, room)
 }
 
 fn fill_zero(room: &mut [u16])
@@ -113,8 +121,86 @@ fn fill_zero(room: &mut [u16])
     }
 }
 
-// The same, place by place.
-pub fn verdicts_by_place(n: usize, p: &[u8], q: &[u8], room: &mut [u16]) -> u16
+// The same, without that test. Where one device is spoiled, all unclean columns of a whole chunk agree,
+// and none is looked at by itself.
+pub fn verdicts_by_place(n: usize, p: &[u8; WIDTH], q: &[u8; WIDTH], room: &mut [u16]) -> u16
+    ensures { λ r. ⌜ WithSummary (verdictsOf n (now (p .entry)) (now (q .entry)) (length (now (room .entry)))) r (now (room .exit)) ⌝ }
+{
+    let p_bytes: &[u8] = p;
+    let q_bytes: &[u8] = q;
+    if room.len() == WIDTH {
+        let common = common_verdict(n, *p, *q);
+        if common != MIXED {
+            fill_unclean(p, q, common, room);
+            return common;
+        }
+    }
+    one_by_one(n, p_bytes, q_bytes, room)
+}
+
+// The common verdict of the unclean columns of a chunk, 0 where all are clean, and MIXED where they may
+// not agree. A verdict depends on Q*/P* alone, so that they agree where Q* is the same multiple of P* at
+// every place.
+fn common_verdict(n: usize, p: [u8; WIDTH], q: [u8; WIDTH]) -> u16
+    ensures { λ r. ⌜ (r ≢ mixed → WithSummary (verdictsOf n p q width) r (each (unclean r p q))) ⌝ }
+{
+    if chunk::are_zero(&p, &p) {
+        if chunk::are_zero(&q, &q) { 0 } else { 2 }
+    } else {
+        let c = ratio(largest_pair(&p, &q));
+        let mut rest = q;
+        products::add_product(&mut rest, c, p);
+        if !chunk::are_zero(&rest, &rest) {
+            MIXED
+        } else if c.0 == 0 {
+            1
+        } else {
+            located(n, c)
+        }
+    }
+}
+
+// Q*/P*, of a pair P* and Q*, and 00 where P* is 00.
+fn ratio(both: u16) -> Element {
+    match Element((both / 256) as u8).inverse() {
+        Inverse::Is(over_p) => Element((both % 256) as u8).product(over_p),
+        Inverse::None => Element(0),
+    }
+}
+
+// The largest pair: its P* is not 00 where any is not. No place is tested by itself, so that the loop
+// becomes vector code.
+fn largest_pair(p: &[u8; WIDTH], q: &[u8; WIDTH]) -> u16 {
+    let mut largest = 0;
+    let mut j = 0;
+    while j < WIDTH {
+        let both = pair(p[j], q[j]);
+        if largest < both {
+            largest = both;
+        }
+        j += 1;
+    }
+    largest
+}
+
+// P* and Q* of one column as one number.
+fn pair(p: u8, q: u8) -> u16 {
+    p as u16 * 256 + q as u16
+}
+
+// v where P* and Q* are not both 00, and 0 elsewhere.
+fn fill_unclean(p: &[u8; WIDTH], q: &[u8; WIDTH], v: u16, room: &mut [u16])
+    requires { ⌜ length (now room) ≡ width ⌝ }
+    ensures { λ _. ⌜ now (room .exit) ≡ each (unclean v (now (p .entry)) (now (q .entry))) ⌝ }
+{
+    let mut j = 0;
+    while j < WIDTH {
+        room[j] = if p[j] | q[j] == 0 { 0 } else { v };
+        j += 1;
+    }
+}
+
+fn one_by_one(n: usize, p: &[u8], q: &[u8], room: &mut [u16]) -> u16
     ensures { λ r. ⌜ WithSummary (verdictsOf n (now (p .entry)) (now (q .entry)) (length (now (room .entry)))) r (now (room .exit)) ⌝ }
 {
     let mut found = 0;

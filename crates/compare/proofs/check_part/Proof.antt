@@ -24,12 +24,6 @@ add-part-survivors-2 c = search needs
 part-survivors-requires : tie.Need-part-survivors-requires
 part-survivors-requires c κs = search needs
 
-slice-aggregate-verdicts-by-place : tie.Need-slice-aggregate-verdicts-by-place
-slice-aggregate-verdicts-by-place c = search needs
-
-slice-aggregate-verdicts-by-place-2 : tie.Need-slice-aggregate-verdicts-by-place-2
-slice-aggregate-verdicts-by-place-2 c = search needs
-
 verdicts-by-place-requires : tie.Need-verdicts-by-place-requires
 verdicts-by-place-requires c κs = search needs
 
@@ -56,8 +50,6 @@ check-part-spec =
     add-part-survivors
     add-part-survivors-2
     part-survivors-requires
-    slice-aggregate-verdicts-by-place
-    slice-aggregate-verdicts-by-place-2
     verdicts-by-place-requires
     same-length
     returns)

@@ -1,76 +1,42 @@
--- `verdict::verdicts_by_place` meets its contract. The loop's invariant: the places below j hold their verdicts, and `found` is their
--- summary. The measure is what is left of the room.
+-- `verdict::verdicts_by_place` meets its contract: where the unclean columns of a whole chunk agree, `common_verdict` tells the verdicts.
 -- Assumes nothing.
-use mathlib.Core.Path.{refl}
-use Prim.Native.Nat.{_-_, _≤_}
-use native.Mathlib.Omega.{arith}
 use borrow.Author.Needs.{needs}
-use lib.ListN.{length}
-use Rattle.verdict.specs.Verdicts.{verdictAt}
-use Rattle.verdict.proofs.Summary.{FilledWithSummary, summary-filled-none, summary-filled-more, summary-filled-all}
 use Rattle.verdict.proofs.verdicts_by_place.Statement.{statement}
 use Rattle.verdict.proofs.verdicts_by_place.Tie as tie
 
-abbrev Inv-loop : tie.InvT-loop
-Inv-loop n p q room₀ found₀ j₀ room found j = (j ≤ length room₀) × FilledWithSummary (verdictAt n p q) (length room₀) room₀ room j found
+common-verdict-requires : tie.Need-common-verdict-requires
+common-verdict-requires c κs = search needs
 
-abbrev μ-loop : tie.MeasureT-loop
-μ-loop n p q room₀ found₀ j₀ room found j = length room₀ - j
+fill-unclean-requires : tie.Need-fill-unclean-requires
+fill-unclean-requires c κs = search needs
 
-loop-holds : tie.Need-loop-holds Inv-loop μ-loop
-loop-holds c = (omega arith, summary-filled-none refl)
+same-length : tie.Need-same-length
+same-length c = search needs
 
-element-at-requires : tie.Need-element-at-requires Inv-loop μ-loop
-element-at-requires c κs = search needs
+returns : tie.Need-returns
+returns c =
+    let filled = c .before .before in
+    let agreed = filled .before .before in
+    rw (agreed .before .before .before .before .if1 .taken, filled .fill-unclean .ensures)
+    (agreed .before .common-verdict .ensures (agreed .if2 .taken))
 
-element-at-requires-2 : tie.Need-element-at-requires-2 Inv-loop μ-loop
-element-at-requires-2 c κs = search needs
+one-by-one-requires : tie.Need-one-by-one-requires
+one-by-one-requires c κs = search needs
 
-verdict-of-requires : tie.Need-verdict-of-requires Inv-loop μ-loop
-verdict-of-requires c κs = search needs
+same-length-2 : tie.Need-same-length-2
+same-length-2 c = search needs
 
-mul-room : tie.Need-mul-room Inv-loop μ-loop
-mul-room c = omega arith
-
-slice-write-room : tie.Need-slice-write-room Inv-loop μ-loop
-slice-write-room c = omega (arith, c .before .before .before .before .loop .inv .1 .filled .long)
-
-joined-requires : tie.Need-joined-requires Inv-loop μ-loop
-joined-requires c κs = search needs
-
-add-j : tie.Need-add-j Inv-loop μ-loop
-add-j c = omega arith
-
-loop-less : tie.Need-loop-less Inv-loop μ-loop
-loop-less c = omega arith
-
-loop-again : tie.Need-loop-again Inv-loop μ-loop
-loop-again c =
-    let l = c .before .before .before .before .before .loop in
-    let verdict = rw (c .before .before .before .element-at .ensures, c .before .before .element-at2 .ensures) at (c .before .verdict-of .ensures) in
-    (omega arith, summary-filled-more (l .inv .1) (omega arith) verdict (c .joined .ensures))
-
-same-length : tie.Need-same-length Inv-loop μ-loop
-same-length c = c .before .loop .inv .1 .filled .long
-
-returns : tie.Need-returns Inv-loop μ-loop
-returns c = summary-filled-all (c .before .loop .inv .1) (omega arith)
+returns-2 : tie.Need-returns-2
+returns-2 c = search needs
 
 pub verdicts-by-place-spec : {M : Type 1} → statement M
 verdicts-by-place-spec =
     tie.close
     (tie.spec
-    Inv-loop
-    μ-loop
-    loop-holds
-    element-at-requires
-    element-at-requires-2
-    verdict-of-requires
-    mul-room
-    slice-write-room
-    joined-requires
-    add-j
-    loop-less
-    loop-again
+    common-verdict-requires
+    fill-unclean-requires
     same-length
-    returns)
+    returns
+    one-by-one-requires
+    same-length-2
+    returns-2)

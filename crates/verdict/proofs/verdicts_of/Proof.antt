@@ -32,7 +32,7 @@ same-length c = search needs
 returns : tie.Need-returns
 returns c =
     let tested = c .before .before .before .before in
-    let a = tested .before .before .before .before .before .before .args in
+    let a = tested .before .before .before .before .args in
     let zeros = sym (tested .before .are-zero .ensures) ∙ tested .if2 .taken in
     let same =
     ap (λ (k : ℕ). tabulate k (verdictAt (a .n) (a .p .now) (a .q .now))) (tested .before .before .if1 .taken)
