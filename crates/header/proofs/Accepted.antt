@@ -13,18 +13,19 @@ use Rattle.shape.specs.Layout.{size}
 use Rattle.shape.specs.Refusals.{library, refusal1, refusal2, refusal3, encodeRefusal}
 use Rattle.base.proofs.Choice.{either-false}
 use Rattle.header.specs.Header.{commandOf, geometryOf, firstDevice, secondDevice, stripeOf}
-use Rattle.header.specs.Refusals.{jobLimit, mostColumns, order, refusal4, refusal5, refusal16, refusal19, refusal20, jobRefusal}
+use Rattle.header.specs.Refusals.{jobLimit, mostColumns, order, refusal4, refusal5, refusal9, refusal16, refusal19, refusal20, jobRefusal}
 use Rattle.base.proofs.Refused.{none-applies}
 use Rattle.shape.proofs.Refused.{well-shaped}
 
 pub record Accepted (job : List ℕ) : Type 0 where
   pub long : 14 ≤ length job
   pub some : 0 < commandOf job
-  pub known : commandOf job ≤ 3
+  pub known : commandOf job ≤ 4
   pub fits : size (geometryOf job) ≤ jobLimit
   pub shape : encodeRefusal (geometryOf job) (length (stripeOf job)) ≡ 0
   pub named : refusal4 (geometryOf job) (commandOf job) (firstDevice job) (secondDevice job) .applies ≡ false
   pub apart : refusal5 (firstDevice job) (secondDevice job) .applies ≡ false
+  pub clear : refusal9 (geometryOf job) (commandOf job) (stripeOf job) .applies ≡ false
 
 pub accepted : (job : List ℕ) → jobRefusal job ≡ 0 → Accepted job
 unfolding jobRefusal
@@ -36,15 +37,16 @@ accepted job e =
     let two : refusal2 library (geometryOf job) .applies ≡ false = search in
     let large : refusal20 (geometryOf job) .applies ≡ false = search in
     let three : refusal3 (geometryOf job) (length (stripeOf job)) .applies ≡ false = search in
-    let one-to-three = either-false (eqb (commandOf job) 0) (ltb 3 (commandOf job)) command in
+    let one-to-four = either-false (eqb (commandOf job) 0) (ltb 4 (commandOf job)) command in
     record {
       long = ltb-false (length job) 14 short;
-      some = pos-of-ne-zero (eqb-false (commandOf job) 0 (one-to-three .0));
-      known = ltb-false 3 (commandOf job) (one-to-three .1);
+      some = pos-of-ne-zero (eqb-false (commandOf job) 0 (one-to-four .0));
+      known = ltb-false 4 (commandOf job) (one-to-four .1);
       fits = ltb-false jobLimit (size (geometryOf job)) large;
       shape = simp (one, two, three);
       named = search;
       apart = search;
+      clear = search;
     }
 
 -- the limit bounds the columns

@@ -15,22 +15,23 @@ use Rattle.shape.specs.Refusals.{library, limitsRefusals, refusal3}
 use Rattle.devices.specs.Codes.{namedBy, lossOf, namedTwice, noDevices}
 use Rattle.header.specs.Fields.{field}
 use Rattle.header.specs.Header.{commandOf, geometryOf, firstDevice, secondDevice, stripeOf}
-use Rattle.header.specs.Refusals.{refusal4, refusal5, refusal20}
-use Rattle.header.specs.Steps.{headerRefusals, callRefusals}
+use Rattle.header.specs.Refusals.{refusal4, refusal5, refusal9, refusal20}
+use Rattle.header.specs.Steps.{headerRefusals, stripeRefusals}
 
 abbrev pub limitsOf : List ℕ → List Refusal
 limitsOf job = limitsRefusals library (geometryOf job)
 
--- from 3 on, with the stripe's length beside the job
-abbrev pub from3 : List ℕ → ℕ → List Refusal
-from3 job len =
-    refusal3 (geometryOf job) len
+-- from 3 on, with the stripe beside the job
+abbrev pub from3 : List ℕ → List ℕ → List Refusal
+from3 job s =
+    refusal3 (geometryOf job) (length s)
     ∷ refusal4 (geometryOf job) (commandOf job) (firstDevice job) (secondDevice job)
     ∷ refusal5 (firstDevice job) (secondDevice job)
+    ∷ refusal9 (geometryOf job) (commandOf job) s
     ∷ []
 
 abbrev pub restOf : List ℕ → List Refusal
-restOf job = from3 job (length (stripeOf job))
+restOf job = from3 job (stripeOf job)
 
 -- from 20 on, and all that follows the header
 abbrev pub from20 : List ℕ → List Refusal
@@ -48,7 +49,7 @@ none-twice (Device d) b e = absurd (false≢true e)
 none-twice Nothing b e = refl
 none-twice Meaningless b e = refl
 
--- what the command's call gives, by what was read of the job
-pub call-as : (job : List ℕ) {g : Geometry} {len first second : ℕ} → g ≡ geometryOf job → len ≡ length (stripeOf job) → first ≡ field job 10 → second ≡ field job 12
-    → firstOf (callRefusals g len (commandOf job) (namedBy first) (namedBy second)) ≡ firstOf (limitsOf job ++ restOf job)
-call-as job is-g is-len is-first is-second = rw (is-g, is-len, is-first, is-second)
+-- what the stripe's refusals give, by what was read of the job
+pub stripe-as : (job : List ℕ) {g : Geometry} {first second : ℕ} {s : List ℕ} → g ≡ geometryOf job → first ≡ field job 10 → second ≡ field job 12 → s ≡ stripeOf job
+    → firstOf (stripeRefusals g (commandOf job) (namedBy first) (namedBy second) s) ≡ firstOf (limitsOf job ++ restOf job)
+stripe-as job is-g is-first is-second is-s = rw (is-g, is-first, is-second, is-s)

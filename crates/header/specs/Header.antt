@@ -18,7 +18,7 @@ mark = 0x53 ∷ 0x52 ∷ 0x4a ∷ []
 abbrev pub versionOf : List ℕ → ℕ
 versionOf job = field job 3
 
--- 1 encode, 2 rebuild, 3 check
+-- 1 encode, 2 rebuild, 3 check, 4 repair
 abbrev pub commandOf : List ℕ → ℕ
 commandOf job = getD job 5 0
 

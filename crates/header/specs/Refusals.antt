@@ -1,4 +1,5 @@
--- The refusals of a job: each number with its test, and their order. Refusals 1 to 3 are those of the stripe.
+-- The refusals of a job: each number with its test, and their order. Refusals 1 to 3 are those of the stripe. Refusal 9 alone depends on
+-- the bytes of the stripe.
 use Prim.Native.Nat.{ℕ, _+_, _/_}
 use mathlib.Core.Bool.{Bool, true, not}
 use mathlib.Core.List.{List, [], _∷_}
@@ -11,6 +12,9 @@ use Rattle.devices.specs.declared.Named.{Named}
 use Rattle.shape.specs.Layout.{size}
 use Rattle.shape.specs.Refusals.{library, refusal1, refusal2, refusal3}
 use Rattle.devices.specs.Codes.{lossOf, misnamed, namedTwice, noDevices}
+use Rattle.verdict.specs.Summary.{summary}
+use Rattle.compare.specs.Compare.{verdicts}
+use Rattle.compare.specs.Repair.{unclear}
 use Rattle.header.specs.Header.{mark, versionOf, commandOf, geometryOf, firstDevice, secondDevice, stripeOf}
 
 -- a job shorter than 14 bytes
@@ -29,9 +33,9 @@ refusal17 job = record { number = 17; applies = not (stands mark 0 job) }
 abbrev pub refusal18 : List ℕ → Refusal
 refusal18 job = record { number = 18; applies = not (eqb (versionOf job) 1) }
 
--- an unknown command: not 1, 2 or 3
+-- an unknown command: not 1 to 4
 abbrev pub refusal19 : ℕ → Refusal
-refusal19 command = record { number = 19; applies = either (eqb command 0) (ltb 3 command) }
+refusal19 command = record { number = 19; applies = either (eqb command 0) (ltb 4 command) }
 
 -- the most bytes that the stripe of a job may have
 abbrev pub jobLimit : ℕ
@@ -46,7 +50,7 @@ abbrev pub refusal20 : Geometry → Refusal
 refusal20 g = record { number = 20; applies = ltb jobLimit (size g) }
 
 -- a device given or missing against the command's rule, a code with no meaning, or a data disk number of n or more: rebuild wants codes
--- that name a loss of devices that the stripe has, encode and check want none twice
+-- that name a loss of devices that the stripe has, every other command wants none twice
 abbrev pub refusal4 : Geometry → ℕ → Named → Named → Refusal
 refusal4 g command first second =
     record { number = 4; applies = choose (eqb command 2) (misnamed g (lossOf first second)) (not (noDevices first second)) }
@@ -54,6 +58,10 @@ refusal4 g command first second =
 -- the same device twice
 abbrev pub refusal5 : Named → Named → Refusal
 refusal5 first second = record { number = 5; applies = namedTwice (lossOf first second) }
+
+-- a repair of a stripe whose summary names no one device
+abbrev pub refusal9 : Geometry → ℕ → List ℕ → Refusal
+refusal9 g command s = record { number = 9; applies = both (eqb command 4) (unclear (summary (verdicts g s))) }
 
 -- ---- the order
 abbrev pub order : List ℕ → Geometry → List Refusal
@@ -68,6 +76,7 @@ order job g =
     ∷ refusal3 g (length (stripeOf job))
     ∷ refusal4 g (commandOf job) (firstDevice job) (secondDevice job)
     ∷ refusal5 (firstDevice job) (secondDevice job)
+    ∷ refusal9 g (commandOf job) (stripeOf job)
     ∷ []
 
 unfoldable pub jobRefusal : List ℕ → ℕ

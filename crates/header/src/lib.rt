@@ -7,7 +7,7 @@ ghost use Rattle.base.specs.Refusal.{firstOf};
 ghost use Rattle.header.specs.Fields.{FieldRead, bigEndian};
 ghost use Rattle.header.specs.Header.{geometryOf};
 ghost use Rattle.header.specs.Refusals.{jobRefusal};
-ghost use Rattle.header.specs.Steps.{headerRefusals, callRefusals};
+ghost use Rattle.header.specs.Steps.{headerRefusals, callRefusals, stripeRefusals};
 
 // The most bytes that the stripe of a job may have.
 pub const LIMIT: usize = 61440;
@@ -29,7 +29,7 @@ pub fn refusal(job: &[u8]) -> u8
     if LIMIT < (g.n + 2) * g.b {
         return 20;
     }
-    call_refusal(g, job.len() - 14, job[5], field(job, 10), field(job, 12))
+    stripe_refusal(g, job[5], field(job, 10), field(job, 12), &job[14..])
 }
 
 // 16 to 19.
@@ -55,13 +55,27 @@ fn header_refusal(job: &[u8]) -> u8
     if command == 0 {
         return 19;
     }
-    if 3 < command {
+    if 4 < command {
         return 19;
     }
     0
 }
 
-// 1 to 5, as the command's call has them. Encode and check want no device.
+// 1 to 5, as the command's call has them, and then 9 of a repair, which alone reads the stripe's bytes.
+fn stripe_refusal(g: Geometry, command: u8, first: usize, second: usize, stripe: &[u8]) -> u8
+    ensures { λ r. ⌜ r ≡ firstOf (stripeRefusals g command (namedBy first) (namedBy second) (now (stripe .entry))) ⌝ }
+{
+    let refused = call_refusal(g, stripe.len(), command, first, second);
+    if refused != 0 {
+        return refused;
+    }
+    if command == 4 {
+        return compare::summary_refusal(compare::summary_of(g, stripe));
+    }
+    0
+}
+
+// 1 to 5. A rebuild alone wants devices.
 fn call_refusal(g: Geometry, len: usize, command: u8, first: usize, second: usize) -> u8
     ensures { λ r. ⌜ r ≡ firstOf (callRefusals g len command (namedBy first) (namedBy second)) ⌝ }
 {

@@ -1,4 +1,4 @@
--- The answer to a job is the one that encode, rebuild and check of a stripe define, and opens with the mark and version 1.
+-- The answer to a job is the one that encode, rebuild, check and repair of a stripe define, and opens with the mark and version 1.
 -- Assumes nothing.
 use mathlib.Core.Path.{_≡_, refl, ap, _∙_}
 use mathlib.Core.Logic.{_≢_}
@@ -11,7 +11,7 @@ use Rattle.column.specs.declared.Lost.{Lost}
 use Rattle.devices.specs.declared.Naming.{Naming}
 use Rattle.devices.specs.declared.Naming.the-variants.{Loss, Wrong}
 use Rattle.compare.specs.Compare.{verdicts}
-use Rattle.stripe.specs.Stripe.{encoded, rebuilt}
+use Rattle.stripe.specs.Stripe.{encoded, rebuilt, repaired}
 use Rattle.verdict.specs.Summary.{summary}
 use Rattle.base.specs.Refusal.{unlessRefused}
 use Rattle.base.proofs.Refused.{left-alone}
@@ -21,7 +21,7 @@ use Rattle.devices.specs.Codes.{misnamed}
 use Rattle.header.specs.Refusals.{jobRefusal}
 use Rattle.job.specs.Answer.{opening, restored, body, answerTo}
 use Rattle.header.proofs.Accepted.{accepted}
-use Rattle.job.proofs.Bodies.{body-encode, body-rebuild, body-check}
+use Rattle.job.proofs.Bodies.{body-encode, body-rebuild, body-check, body-repair}
 
 -- a refused job gets the six bytes alone
 pub answer-refused : (job : List ℕ) → jobRefusal job ≢ 0 → answerTo job ≡ opening (jobRefusal job)
@@ -55,6 +55,9 @@ module _ (job : List ℕ) (e : jobRefusal job ≡ 0) where
       → answerTo job
       ≡ opening 0 ++ fields (summary (verdicts (geometryOf job) (stripeOf job)) ∷ verdicts (geometryOf job) (stripeOf job))
   answer-check is = answer-accepted job e ∙ ap (λ (l : List ℕ). opening 0 ++ l) (body-check job is)
+
+  pub answer-repair : commandOf job ≡ 4 → answerTo job ≡ opening 0 ++ repaired (geometryOf job) (stripeOf job)
+  answer-repair is = answer-accepted job e ∙ ap (λ (l : List ℕ). opening 0 ++ l) (body-repair job is)
 
   pub length-accepted : length (answerTo job) ≡ 6 + length (body job)
   length-accepted = ap length (answer-accepted job e) ∙ omega arith

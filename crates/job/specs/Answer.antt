@@ -1,5 +1,5 @@
--- The answer to a job: mark, version 1 and the result byte; then, unless the job is refused, the stripe for an encode or a rebuild, or
--- the summary and the verdicts for a check.
+-- The answer to a job: mark, version 1 and the result byte; then, unless the job is refused, the stripe for an encode, a rebuild or a
+-- repair, or the summary and the verdicts for a check.
 use Prim.Native.Nat.{ℕ}
 use mathlib.Core.Path.{_≡_}
 use mathlib.Core.List.{List, [], _∷_, _++_}
@@ -10,7 +10,7 @@ use Rattle.devices.specs.declared.Naming.{Naming}
 use Rattle.devices.specs.declared.Naming.the-variants.{Loss, Wrong}
 use Rattle.base.specs.Choice.{choose}
 use Rattle.compare.specs.Compare.{verdicts}
-use Rattle.stripe.specs.Stripe.{encoded, rebuilt}
+use Rattle.stripe.specs.Stripe.{encoded, rebuilt, repaired}
 use Rattle.base.specs.Refusal.{unlessRefused}
 use Rattle.header.specs.Fields.{bigEndian}
 use Rattle.header.specs.Header.{mark, commandOf, geometryOf, lossNamed, stripeOf}
@@ -29,7 +29,8 @@ restored g Wrong s = s
 -- what follows the six bytes where the job is not refused
 abbrev pub outcome : ℕ → Geometry → Naming → List ℕ → List ℕ
 outcome command g loss s =
-    choose (eqb command 1) (encoded g s) (choose (eqb command 2) (restored g loss s) (report (verdicts g s)))
+    choose (eqb command 1) (encoded g s)
+    (choose (eqb command 2) (restored g loss s) (choose (eqb command 3) (report (verdicts g s)) (repaired g s)))
 
 unfoldable pub body : List ℕ → List ℕ
 body job = outcome (commandOf job) (geometryOf job) (lossNamed job) (stripeOf job)

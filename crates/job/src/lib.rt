@@ -1,5 +1,5 @@
 // One job: a header of 14 bytes and a stripe, answered by six bytes and, unless the job is refused,
-// the stripe after its encode or rebuild, or what a check of it found.
+// the stripe after its encode, rebuild or repair, or what a check of it found.
 use header::LIMIT;
 use shape::Geometry;
 ghost use mathlib.Core.Path.{_≡_};
@@ -72,7 +72,11 @@ fn run(job: &[u8], out: &mut [u8])
         stripe::encode(g, out);
         return;
     }
-    stripe::rebuild_named(g, out, header::field(job, 10), header::field(job, 12));
+    if command == 2 {
+        stripe::rebuild_named(g, out, header::field(job, 10), header::field(job, 12));
+        return;
+    }
+    stripe::repair(g, out);
 }
 
 // Fills an output of the report's length with the report of a check.

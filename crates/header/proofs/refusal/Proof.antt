@@ -7,9 +7,10 @@ use Prim.Native.Nat.{ℕ, _+_, _≤_}
 use native.Mathlib.Nat.{mul-le-mul}
 use native.Mathlib.Omega.{arith}
 use borrow.Author.Tests.{lt-ltb, le-ltb}
-use lib.ListN.{length, length-drop}
+use lib.ListN.{length}
 use Rattle.base.specs.Refusal.{firstOf}
 use Rattle.base.proofs.Refused.{first-passed, refused-first, refused-then}
+use Rattle.base.proofs.Tails.{tail}
 use Rattle.shape.specs.declared.Geometry.{Geometry}
 use Rattle.shape.specs.declared.Limits.{Limits}
 use Rattle.shape.specs.Layout.{size}
@@ -18,7 +19,7 @@ use Rattle.shape.proofs.Refused.{Within, within-limits}
 use Rattle.header.specs.Header.{geometryOf}
 use Rattle.header.specs.Refusals.{jobLimit, jobRefusal}
 use Rattle.header.specs.Steps.{headerRefusals}
-use Rattle.header.proofs.Order.{limitsOf, restOf, from20, behindHeader, header-long, call-as}
+use Rattle.header.proofs.Order.{limitsOf, restOf, from20, behindHeader, header-long, stripe-as}
 use Rattle.header.proofs.refusal.Statement.{statement}
 use Rattle.header.proofs.refusal.Tie as tie
 
@@ -81,11 +82,8 @@ returns-3 c =
     let large = ap size (c .before .before .before .before .before .before .geometry .ensures) in
     behind (c .before .before .before .before .before .before .before) (refused-then (limitsOf job) (from20 job) (limits (c .before .before .before .before)) refl (c .before .before .before .if2 .left) (simp (lt-ltb jobLimit (size (geometryOf job)) (omega arith))))
 
-sub-call-refusal : tie.Need-sub-call-refusal
-sub-call-refusal c = long (c .before .before .before .before .before .before .before)
-
-shared-slice-read-call-refusal : tie.Need-shared-slice-read-call-refusal
-shared-slice-read-call-refusal c = omega (arith, long (c .before .before .before .before .before .before .before .before))
+shared-slice-read-stripe-refusal : tie.Need-shared-slice-read-stripe-refusal
+shared-slice-read-stripe-refusal c = omega (arith, long (c .before .before .before .before .before .before .before .before))
 
 field-requires : tie.Need-field-requires
 field-requires c κs = search needs
@@ -93,16 +91,28 @@ field-requires c κs = search needs
 field-requires-2 : tie.Need-field-requires-2
 field-requires-2 c κs = search needs
 
-call-refusal-requires : tie.Need-call-refusal-requires
-call-refusal-requires c κs = search needs
+sub-stripe-refusal : tie.Need-sub-stripe-refusal
+sub-stripe-refusal c = long (c .before .before .before .before .before .before .before .before .before .before)
+
+part-stripe-refusal-start : tie.Need-part-stripe-refusal-start
+part-stripe-refusal-start c = long (c .before .before .before .before .before .before .before .before .before .before)
+
+part-stripe-refusal-end : tie.Need-part-stripe-refusal-end
+part-stripe-refusal-end c = search needs
+
+stripe-refusal-requires : tie.Need-stripe-refusal-requires
+stripe-refusal-requires c κs = search needs
 
 returns-4 : tie.Need-returns-4
 unfolding jobRefusal
 returns-4 c =
-    let job = c .before .before .before .before .before .before .before .before .before .before .before .before .before .before .args .job .now in
-    let small = ap size (c .before .before .before .before .before .before .before .before .before .before .geometry .ensures) in
-    let call = c .call-refusal .ensures ∙ call-as job (c .before .before .before .before .before .before .before .before .before .before .geometry .ensures) (sym (length-drop 14 job)) (c .before .before .field .ensures .value) (c .before .field2 .ensures .value) in
-    behind (c .before .before .before .before .before .before .before .before .before .before .before) (refused-then (limitsOf job) (from20 job) (limits (c .before .before .before .before .before .before .before .before)) refl (c .before .before .before .before .before .before .before .if2 .left) (call ∙ first-passed (limitsOf job) (restOf job) refl (sym (limits (c .before .before .before .before .before .before .before .before)) ∙ c .before .before .before .before .before .before .before .if2 .left) ∙ sym (simp (le-ltb jobLimit (size (geometryOf job)) (omega arith)))))
+    let left = c .before .before .before .before .before .before .before .before in
+    let job = left .before .before .before .before .before .before .before .args .job .now in
+    let g = left .before .before .before .geometry .ensures in
+    let small = ap size g in
+    let passed = left .if2 .left in
+    let rest = c .stripe-refusal .ensures ∙ stripe-as job g (c .before .before .before .field .ensures .value) (c .before .before .field2 .ensures .value) (tail 14 job) in
+    behind (left .before .before .before .before) (refused-then (limitsOf job) (from20 job) (limits (left .before)) refl passed (rest ∙ first-passed (limitsOf job) (restOf job) refl (sym (limits (left .before)) ∙ passed) ∙ sym (simp (le-ltb jobLimit (size (geometryOf job)) (omega arith)))))
 
 pub refusal-spec : {M : Type 1} → statement M
 refusal-spec =
@@ -117,9 +127,11 @@ refusal-spec =
     add-if3
     mul-if3
     returns-3
-    sub-call-refusal
-    shared-slice-read-call-refusal
+    shared-slice-read-stripe-refusal
     field-requires
     field-requires-2
-    call-refusal-requires
+    sub-stripe-refusal
+    part-stripe-refusal-start
+    part-stripe-refusal-end
+    stripe-refusal-requires
     returns-4)

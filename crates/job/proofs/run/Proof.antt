@@ -8,13 +8,13 @@ use borrow.Author.Needs.{needs}
 use lib.ListN.{length, take, drop}
 use Rattle.shape.specs.declared.Geometry.{Geometry}
 use Rattle.shape.specs.Refusals.{encodeRefusal}
-use Rattle.stripe.specs.Calls.{afterEncode, rebuiltBy}
+use Rattle.stripe.specs.Calls.{afterEncode, rebuiltBy, afterRepair}
 use Rattle.devices.specs.Codes.{namingOf}
 use Rattle.header.specs.Header.{geometryOf, stripeOf}
 use Rattle.report.specs.Report.{report}
 use Rattle.compare.specs.Compare.{verdicts}
 use Rattle.header.proofs.Accepted.{Accepted, accepted, columns-most}
-use Rattle.job.proofs.Bodies.{length-stripe, other, body-check, length-check, encode-done, rebuild-done}
+use Rattle.job.proofs.Bodies.{length-stripe, other, body-check, length-check, encode-done, rebuild-done, repair-done}
 use Rattle.base.proofs.Tails.{tail, filled}
 use Rattle.job.proofs.run.Statement.{statement}
 use Rattle.job.proofs.run.Tie as tie
@@ -27,10 +27,13 @@ room c =
     let s = c .before .before .before .before .before .before in
     s .pre .1 ∙ length-stripe (s .args .job .now) (ok s) (c .if1 .left)
 
--- the output holds the stripe
-copied : (c : tie.After-slice-known3) → c .before .before .copy .last .1 .0 ≡ stripeOf (c .before .before .before .before .before .before .before .before .before .before .args .job .now)
+-- behind the copy the output holds the stripe
+abbrev start : tie.After-slice-known3 → tie.Start
+start c = c .before .before .before .before .before .before .before .before .before .before
+
+copied : (c : tie.After-slice-known3) → c .before .before .copy .last .1 .0 ≡ stripeOf (start c .args .job .now)
 copied c =
-    let a = c .before .before .before .before .before .before .before .before .before .before .args in
+    let a = start c .args in
     c .before .before .copy .ensures .1
     ∙ ap (λ (l : List ℕ). take (length l) l ++ drop (length l) (a .out .now)) (tail 14 (a .job .now))
     ∙ filled (stripeOf (a .job .now)) (a .out .now) (room (c .before .before .before .before))
@@ -82,10 +85,10 @@ same-length-2 c = search needs
 
 returns-2 : tie.Need-returns-2
 returns-2 c =
-    let s = c .before .before .before .before .before .before .before .before .before .before .before .before .before .before .before in
-    let g = c .before .before .before .before .before .before .before .before .before .before .before .before .geometry in
+    let copy = c .before .before .before .before .before in
+    let s = start copy in
     c .before .before .encode .ensures .stripe
-    ∙ ap₂ afterEncode (g .ensures) (copied (c .before .before .before .before .before))
+    ∙ ap₂ afterEncode (copy .before .before .before .before .before .before .before .geometry .ensures) (copied copy)
     ∙ encode-done (s .args .job .now) (ok s) (c .before .before .before .before .if2 .taken)
 
 field-requires : tie.Need-field-requires
@@ -102,15 +105,31 @@ same-length-3 c = search needs
 
 returns-3 : tie.Need-returns-3
 returns-3 c =
-    let s = c .before .before .before .before .before .before .before .before .before .before .before .before .before .before .before .before .before in
+    let copy = c .before .before .before .before .before .before .before .before in
+    let s = start copy in
     let job = s .args .job .now in
-    let g = c .before .before .before .before .before .before .before .before .before .before .before .before .before .before .geometry in
     let first = c .before .before .before .before .field in
     let second = c .before .before .before .field2 in
     c .before .before .rebuild-named .ensures .stripe
-    ∙ ap₂ (λ (g : Geometry) (l : List ℕ). rebuiltBy g (namingOf (first .result) (second .result)) l) (g .ensures) (copied (c .before .before .before .before .before .before .before))
+    ∙ ap₂ (λ (g : Geometry) (l : List ℕ). rebuiltBy g (namingOf (first .result) (second .result)) l) (copy .before .before .before .before .before .before .before .geometry .ensures) (copied copy)
     ∙ ap₂ (λ (x y : ℕ). rebuiltBy (geometryOf job) (namingOf x y) (stripeOf job)) (first .ensures .value) (second .ensures .value)
-    ∙ rebuild-done job (ok s) (other job (ok s) (c .before .before .before .before .before .before .if2 .left) (c .before .before .before .before .before .before .before .before .before .before .before .if1 .left))
+    ∙ rebuild-done job (ok s) (c .before .before .before .before .before .before .if3 .taken)
+
+repair-requires : tie.Need-repair-requires
+repair-requires c κs = search needs
+
+same-length-4 : tie.Need-same-length-4
+same-length-4 c = search needs
+
+returns-4 : tie.Need-returns-4
+returns-4 c =
+    let copy = c .before .before .before .before .before .before in
+    let s = start copy in
+    let job = s .args .job .now in
+    let last = other job (ok s) (c .before .before .before .before .before .if2 .left) (c .before .before .before .before .if3 .left) (copy .before .before .before .before .if1 .left) in
+    c .before .before .repair .ensures .stripe
+    ∙ ap₂ afterRepair (copy .before .before .before .before .before .before .before .geometry .ensures) (copied copy)
+    ∙ repair-done job (ok s) last
 
 pub run-spec : {M : Type 1} → statement M
 run-spec =
@@ -132,4 +151,7 @@ run-spec =
     field-requires-2
     rebuild-named-requires
     same-length-3
-    returns-3)
+    returns-3
+    repair-requires
+    same-length-4
+    returns-4)
