@@ -6,6 +6,7 @@ pub const MARK: [u8; 3] = *b"SRJ";
 pub const ENCODE: u8 = 1;
 pub const REBUILD: u8 = 2;
 pub const CHECK: u8 = 3;
+pub const REPAIR: u8 = 4;
 
 /// What the program's buffer holds of its input.
 pub const CAPACITY: usize = 61455;
@@ -68,7 +69,7 @@ fn run(job: &[u8]) -> Result<Vec<u8>, u8> {
     let refusal = first(&[
         (17, header[..3] != MARK),
         (18, number(3) != 1),
-        (19, ![ENCODE, REBUILD, CHECK].contains(&command)),
+        (19, ![ENCODE, REBUILD, CHECK, REPAIR].contains(&command)),
         bad_n(n),
         bad_b(b),
         (20, size(n, b) > u128::from(LARGEST_STRIPE)),
@@ -83,10 +84,16 @@ fn run(job: &[u8]) -> Result<Vec<u8>, u8> {
     let result = match command {
         ENCODE => stripe::encode(n, b, &mut bytes),
         REBUILD => stripe::rebuild(n, b, &mut bytes, one, two),
+        REPAIR => stripe::repair(n, b, &mut bytes),
         _ => return stripe::check(n, b, &bytes).map(|verdicts| report(&verdicts)),
     };
-    assert_eq!(result, 0, "the job's own tests cover the call's");
-    Ok(bytes)
+    match result {
+        0 => Ok(bytes),
+        _ => {
+            assert_eq!((command, result), (REPAIR, 9), "the job's own tests cover the call's but for the stripe's bytes");
+            Err(result)
+        }
+    }
 }
 
 /// The summary and the verdicts.
@@ -111,6 +118,18 @@ mod tests {
         let report = |stripe: &[u8]| answer(&Header::new(CHECK, 1, 3, NO_DEVICE, NO_DEVICE).with(stripe))[5..].to_vec();
         assert_eq!(report(&[5, 6, 7, 5, 6, 7, 5, 7, 8]), [0, 0, 2, 0, 0, 0, 2, 0, 2]);
         assert_eq!(report(&[5, 6, 7, 5, 6, 8, 5, 7, 7]), [0, 0, 4, 0, 0, 0, 2, 0, 1]);
+    }
+
+    #[test]
+    fn a_repair_gives_the_stripe_or_is_refused_last() {
+        let result = |header: Header, stripe: &[u8]| answer(&header.with(stripe))[5..].to_vec();
+        let repair = Header::new(REPAIR, 3, 1, NO_DEVICE, NO_DEVICE);
+        assert_eq!(result(repair, &[1, 2, 4, 7, 0x15]), [0, 1, 2, 4, 7, 0x15]);
+        assert_eq!(result(repair, &[1, 2, 5, 7, 0x15]), [0, 1, 2, 4, 7, 0x15]);
+        assert_eq!(result(repair, &[1, 2, 4, 6, 0x1d]), [9]);
+        assert_eq!(result(Header { first: 0, ..repair }, &[1, 2, 4, 6, 0x1d]), [4]);
+        assert_eq!(result(Header { second: 257, ..repair }, &[1, 2, 4, 6, 0x1d]), [4]);
+        assert_eq!(result(Header { command: 5, ..repair }, &[1, 2, 4, 6, 0x1d]), [19]);
     }
 
     #[test]

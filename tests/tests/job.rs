@@ -6,7 +6,7 @@ use std::os::unix::process::ExitStatusExt;
 use std::path::Path;
 use std::time::Duration;
 
-use outside::job::{self, Header, CHECK, ENCODE, LARGEST_STRIPE, REBUILD};
+use outside::job::{self, Header, CHECK, ENCODE, LARGEST_STRIPE, REBUILD, REPAIR};
 use outside::program::{self, ClosedPipe};
 use outside::random::{trials, Random};
 use outside::shapes::{BLOCKS, DISKS};
@@ -165,7 +165,7 @@ fn random_header(random: &mut Random) -> Header {
         place if place < n => place as u16,
         place => [P, Q, NONE][place - n],
     };
-    let command = random.pick(&[ENCODE, REBUILD, REBUILD, CHECK]);
+    let command = random.pick(&[ENCODE, REBUILD, REBUILD, CHECK, REPAIR]);
     let (first, second) = if command == REBUILD { (device(random), device(random)) } else { (NONE, NONE) };
     Header::new(command, n as u16, b as u16, first, second)
 }
@@ -190,15 +190,29 @@ fn damage(random: &mut Random, header: &mut Header) {
     }
 }
 
-/// A stripe for a check is encoded and then damaged in some columns.
+/// A stripe for a check or a repair is encoded and then damaged in some columns, that for a repair often on one device alone.
 fn random_bytes(random: &mut Random, header: &Header) -> Vec<u8> {
     let (n, b) = (u64::from(header.n), u64::from(header.b));
     let mut stripe = random.bytes(((n + 2) * b) as usize);
-    if header.command == CHECK && !random.once_in(4) {
+    if header.command == REPAIR && random.once_in(2) {
+        encode_and_spoil(random, n, b, &mut stripe, 0);
+        let device = random.within(0, n as usize + 1) as u64;
+        spoil_device(random, b, &mut stripe, device);
+    } else if [CHECK, REPAIR].contains(&header.command) && !random.once_in(4) {
         let count = random.within(0, 3);
         encode_and_spoil(random, n, b, &mut stripe, count);
     }
     stripe
+}
+
+/// Puts other bytes on some columns of one device.
+fn spoil_device(random: &mut Random, b: u64, stripe: &mut [u8], device: u64) {
+    let start = (device * b) as usize;
+    for byte in &mut stripe[start..start + b as usize] {
+        if random.once_in(3) {
+            *byte ^= random.within(1, 255) as u8;
+        }
+    }
 }
 
 /// Encodes a stripe and puts other bytes, by chance the same, at so many places.
@@ -234,6 +248,12 @@ fn every_shape() {
             for count in 0..=3 {
                 encode_and_spoil(&mut random, n, b, &mut stripe, count);
                 compare(&case, &job(CHECK, NONE, NONE, &stripe));
+                compare(&case, &job(REPAIR, NONE, NONE, &stripe));
+            }
+            for device in [0, n - 1, n, n + 1] {
+                encode_and_spoil(&mut random, n, b, &mut stripe, 0);
+                spoil_device(&mut random, b, &mut stripe, device);
+                compare(&case, &job(REPAIR, NONE, NONE, &stripe));
             }
         }
     }
@@ -250,7 +270,10 @@ fn every_column_spoiled() {
         for column in 0..b {
             let at = (random.within(0, n as usize + 1) as u64 * b + column) as usize;
             stripe[at] ^= 0x40;
-            compare(&format!("b {b}, column {column}"), &Header::new(CHECK, n as u16, b as u16, NONE, NONE).with(&stripe));
+            for command in [CHECK, REPAIR] {
+                let job = Header::new(command, n as u16, b as u16, NONE, NONE).with(&stripe);
+                compare(&format!("b {b}, column {column}, command {command}"), &job);
+            }
             stripe[at] ^= 0x40;
         }
     }
