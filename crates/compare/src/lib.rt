@@ -114,7 +114,7 @@ fn check_strip(g: Geometry, stripe: &[u8], i: usize, room: &mut [u16]) -> u16
         let b = chunk::load(&q[c..c + WIDTH]);
         found = verdict::joined(
             found,
-            verdict::verdicts_of(g.n, &a, &b, &mut room[c..c + WIDTH]),
+            verdict::verdicts_of(g.n, &a, &b, found, &mut room[c..c + WIDTH]),
         );
         m += 1;
     }
@@ -129,7 +129,10 @@ fn check_columns(g: Geometry, stripe: &[u8], room: &mut [u16], keep: bool) -> u1
     let mut i = 0;
     while WIDTH <= g.b - i {
         let at = place(i, keep);
-        found = verdict::joined(found, check_chunk(g, stripe, i, &mut room[at..at + WIDTH]));
+        found = verdict::joined(
+            found,
+            check_chunk(g, stripe, i, found, &mut room[at..at + WIDTH]),
+        );
         i += WIDTH;
     }
     if i < g.b {
@@ -140,15 +143,15 @@ fn check_columns(g: Geometry, stripe: &[u8], room: &mut [u16], keep: bool) -> u1
     found
 }
 
-// Stored plus recomputed, and what the differences say.
-fn check_chunk(g: Geometry, stripe: &[u8], i: usize, room: &mut [u16]) -> u16
+// Stored plus recomputed, and what the differences say; the summary of the columns before is the guess.
+fn check_chunk(g: Geometry, stripe: &[u8], i: usize, guess: u16, room: &mut [u16]) -> u16
     requires { ⌜ Has g (now stripe) i width × (length (now room) ≡ width) ⌝ }
     ensures { λ r. ⌜ WithSummary (tabulate (length (now (room .entry))) (λ j. verdict (g .n) (column g (now (stripe .entry)) (i + j)))) r (now (room .exit)) ⌝ }
 {
     let s = sums::syndromes(g, stripe, i);
     let p = s.p;
     let q = s.q;
-    verdict::verdicts_of(g.n, &p, &q, room)
+    verdict::verdicts_of(g.n, &p, &q, guess, room)
 }
 
 fn check_part(g: Geometry, stripe: &[u8], i: usize, room: &mut [u16]) -> u16
@@ -158,5 +161,5 @@ fn check_part(g: Geometry, stripe: &[u8], i: usize, room: &mut [u16]) -> u16
     let s = sums::part_survivors(g, stripe, i, room.len(), g.n + 2, g.n + 2);
     let p = s.p;
     let q = s.q;
-    verdict::verdicts_by_place(g.n, &p, &q, room)
+    verdict::verdicts_by_place(g.n, &p, &q, 0, room)
 }

@@ -4,13 +4,14 @@ use column::Device;
 use gf256::Element;
 use gf256::Inverse;
 use gf256::Logarithm;
+ghost use mathlib.Core.Bool.{false};
 ghost use mathlib.Core.Logic.{_≢_};
 ghost use mathlib.Core.Path.{_≡_};
 ghost use lib.ListN.{length, getD};
 ghost use Rattle.base.specs.Table.{tabulate};
 ghost use Rattle.gf256.specs.Field.{firstExponent};
 ghost use Rattle.column.specs.Column.{verdictOf, located};
-ghost use Rattle.chunk.specs.Chunk.{width, each};
+ghost use Rattle.chunk.specs.Chunk.{width, each, allZero};
 ghost use Rattle.verdict.specs.Faulty.{faultyOf};
 ghost use Rattle.verdict.specs.Summary.{mixed, joined, WithSummary};
 ghost use Rattle.verdict.specs.Verdicts.{verdictsOf, unclean};
@@ -97,8 +98,9 @@ pub fn faulty_device(summary: u16) -> Faulty
 }
 
 // The verdicts on the columns of a chunk whose P* and Q* are p and q, one for each place of the
-// room, and their summary. A whole chunk without differences, the common case, is told by one test.
-pub fn verdicts_of(n: usize, p: &[u8; WIDTH], q: &[u8; WIDTH], room: &mut [u16]) -> u16
+// room, and their summary. A whole chunk without differences, the common case, is told by one test. Any
+// guess may be given; the summary of the columns before is found fastest.
+pub fn verdicts_of(n: usize, p: &[u8; WIDTH], q: &[u8; WIDTH], guess: u16, room: &mut [u16]) -> u16
     ensures { λ r. ⌜ WithSummary (verdictsOf n (now (p .entry)) (now (q .entry)) (length (now (room .entry)))) r (now (room .exit)) ⌝ }
 {
     if room.len() == WIDTH {
@@ -107,7 +109,7 @@ pub fn verdicts_of(n: usize, p: &[u8; WIDTH], q: &[u8; WIDTH], room: &mut [u16])
             return 0;
         }
     }
-    verdicts_by_place(n, p, q, room)
+    verdicts_by_place(n, p, q, guess, room)
 }
 
 fn fill_zero(room: &mut [u16])
@@ -123,13 +125,19 @@ fn fill_zero(room: &mut [u16])
 
 // The same, without that test. Where one device is spoiled, all unclean columns of a whole chunk agree,
 // and none is looked at by itself.
-pub fn verdicts_by_place(n: usize, p: &[u8; WIDTH], q: &[u8; WIDTH], room: &mut [u16]) -> u16
+pub fn verdicts_by_place(
+    n: usize,
+    p: &[u8; WIDTH],
+    q: &[u8; WIDTH],
+    guess: u16,
+    room: &mut [u16],
+) -> u16
     ensures { λ r. ⌜ WithSummary (verdictsOf n (now (p .entry)) (now (q .entry)) (length (now (room .entry)))) r (now (room .exit)) ⌝ }
 {
     let p_bytes: &[u8] = p;
     let q_bytes: &[u8] = q;
     if room.len() == WIDTH {
-        let common = common_verdict(n, *p, *q);
+        let common = common_verdict(n, *p, *q, guess);
         if common != MIXED {
             fill_unclean(p, q, common, room);
             return common;
@@ -140,24 +148,47 @@ pub fn verdicts_by_place(n: usize, p: &[u8; WIDTH], q: &[u8; WIDTH], room: &mut 
 
 // The common verdict of the unclean columns of a chunk, 0 where all are clean, and MIXED where they may
 // not agree. A verdict depends on Q*/P* alone, so that they agree where Q* is the same multiple of P* at
-// every place.
-fn common_verdict(n: usize, p: [u8; WIDTH], q: [u8; WIDTH]) -> u16
+// every place. The multiple that is guessed is tried first: it needs no division.
+fn common_verdict(n: usize, p: [u8; WIDTH], q: [u8; WIDTH], guess: u16) -> u16
     ensures { λ r. ⌜ (r ≢ mixed → WithSummary (verdictsOf n p q width) r (each (unclean r p q))) ⌝ }
 {
     if chunk::are_zero(&p, &p) {
         if chunk::are_zero(&q, &q) { 0 } else { 2 }
     } else {
-        let c = ratio(largest_pair(&p, &q));
-        let mut rest = q;
-        products::add_product(&mut rest, c, p);
-        if !chunk::are_zero(&rest, &rest) {
-            MIXED
-        } else if c.0 == 0 {
-            1
+        let by_guess = verdict_by(n, p, q, guessed(guess));
+        if by_guess != MIXED {
+            by_guess
         } else {
-            located(n, c)
+            verdict_by(n, p, q, ratio(largest_pair(&p, &q)))
         }
     }
+}
+
+// The common verdict where Q* is c P* at every place, and MIXED where it is not.
+fn verdict_by(n: usize, p: [u8; WIDTH], q: [u8; WIDTH], c: Element) -> u16
+    requires { ⌜ allZero p p ≡ false ⌝ }
+    ensures { λ r. ⌜ (r ≢ mixed → WithSummary (verdictsOf n p q width) r (each (unclean r p q))) ⌝ }
+{
+    let mut rest = q;
+    products::add_product(&mut rest, c, p);
+    if !chunk::are_zero(&rest, &rest) {
+        MIXED
+    } else if c.0 == 0 {
+        1
+    } else {
+        located(n, c)
+    }
+}
+
+// Q*/P* of the disk that a verdict names, where that is one bit. 00, as of P, elsewhere.
+fn guessed(verdict: u16) -> Element {
+    if verdict < 16 {
+        return Element(0);
+    }
+    if 24 <= verdict {
+        return Element(0);
+    }
+    Element(1u8 << (verdict - 16))
 }
 
 // Q*/P*, of a pair P* and Q*, and 00 where P* is 00.

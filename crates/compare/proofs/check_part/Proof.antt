@@ -28,7 +28,7 @@ verdicts-by-place-requires : tie.Need-verdicts-by-place-requires
 verdicts-by-place-requires c κs = search needs
 
 same-length : tie.Need-same-length
-same-length c = c .before .before .verdicts-by-place .kept .1 .1 .1 .0
+same-length c = c .before .before .verdicts-by-place .kept .1 .1 .1 .1 .0
 
 returns : tie.Need-returns
 returns c =

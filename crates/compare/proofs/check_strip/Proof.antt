@@ -123,7 +123,7 @@ loop-again c =
     let told : tabulate (length (take (k + width - k) (drop k (l .room)))) (λ j. verdictOf n (getD (c .before .before .before .before .before .before .before .before .before .before .load .result) j 0) (getD (c .before .before .before .before .before .before .before .load2 .result) j 0)) ≡ tabulate width (λ j. verdict n (column (a .g) (a .stripe .now) (a .i + (k + j)))) =
     ap (λ (w : ℕ). tabulate w (λ j. verdictOf n (getD (c .before .before .before .before .before .before .before .before .before .before .load .result) j 0) (getD (c .before .before .before .before .before .before .before .load2 .result) j 0))) size
     ∙ tabulate-same width (λ j h. ap₂ (verdictOf n) (of-p j h ∙ none-lost n (column (a .g) (a .stripe .now) (a .i + k + j)) .0) (of-q j h ∙ none-lost n (column (a .g) (a .stripe .now) (a .i + k + j)) .1) ∙ ap (λ (i : ℕ). verdict n (column (a .g) (a .stripe .now) i)) (omega arith)) in
-    (omega (arith, fits), subst (λ (e : ℕ). FilledWithSummary (λ j. verdict n (column (a .g) (a .stripe .now) (a .i + j))) strip (a .room .now) (putMid k (k + width - k) (l .room) (c .before .before .before .verdicts-of .last .1 .1 .1 .0)) e (c .joined .result)) next (summary-filled-part width (l .inv .1) fits (summary-as told (c .before .before .before .verdicts-of .ensures)) (post-is k (k + width) (l .room) (omega arith)) (c .joined .ensures)))
+    (omega (arith, fits), subst (λ (e : ℕ). FilledWithSummary (λ j. verdict n (column (a .g) (a .stripe .now) (a .i + j))) strip (a .room .now) (putMid k (k + width - k) (l .room) (c .before .before .before .verdicts-of .last .1 .1 .1 .1 .0)) e (c .joined .result)) next (summary-filled-part width (l .inv .1) fits (summary-as told (c .before .before .before .verdicts-of .ensures)) (post-is k (k + width) (l .room) (omega arith)) (c .joined .ensures)))
 
 same-length : tie.Need-same-length Inv-loop μ-loop
 same-length c = c .before .loop .inv .1 .filled .long ∙ sym (c .before .before .before .before .before .before .before .before .before .pre .1)
