@@ -129,10 +129,8 @@ fn check_columns(g: Geometry, stripe: &[u8], room: &mut [u16], keep: bool) -> u1
     let mut i = 0;
     while WIDTH <= g.b - i {
         let at = place(i, keep);
-        found = verdict::joined(
-            found,
-            check_chunk(g, stripe, i, found, &mut room[at..at + WIDTH]),
-        );
+        let next = check_chunk(g, stripe, i, found, &mut room[at..at + WIDTH]);
+        found = verdict::joined(found, next);
         i += WIDTH;
     }
     if i < g.b {
