@@ -212,8 +212,8 @@ uint8_t shelf_check(uint64_t n, uint64_t b, const uint8_t *stripe, size_t stripe
  *
  *   n           data disks, 1 to 255
  *   b           block size in bytes, 1 to 65536
- *   stripe      the stripe: the device that the check names is written, in the columns that aren't clean; no other byte
- *               changes
+ *   stripe      the stripe: the block of the device that the check names is written, and its bytes in the columns that
+ *               aren't clean alone change
  *   stripe_len  (n + 2) * b
  *
  * Refusals, in order:
