@@ -19,6 +19,8 @@ fn main() {
     encoding();
     rebuilding();
     checking();
+    repairing();
+    refusing();
     judging();
     answering();
 }
@@ -114,6 +116,64 @@ fn checking() {
         b"check n=8: column 5 disk 2, column 9 disk 2",
         b"summary 18",
         summary_with(29),
+    );
+}
+
+// A stripe is written as its data, then P and Q. Disks 01 02 and 80 04 have P 81 06 and Q 1c 0a.
+fn repairing() {
+    row(
+        b"repair n=2: 01028004 81061c0a, clean",
+        b"01028004 81061c0a",
+        repaired(2, 2, [0x01, 0x02, 0x80, 0x04, 0x81, 0x06, 0x1c, 0x0a]),
+    );
+    row(
+        b"repair n=2: 01028004 00061c0a, byte of P",
+        b"01028004 81061c0a",
+        repaired(2, 2, [0x01, 0x02, 0x80, 0x04, 0x00, 0x06, 0x1c, 0x0a]),
+    );
+    row(
+        b"repair n=2: 01028004 81061cff, byte of Q",
+        b"01028004 81061c0a",
+        repaired(2, 2, [0x01, 0x02, 0x80, 0x04, 0x81, 0x06, 0x1c, 0xff]),
+    );
+    row(
+        b"repair n=2: 01020004 81061c0a, byte of disk 1",
+        b"01028004 81061c0a",
+        repaired(2, 2, [0x01, 0x02, 0x00, 0x04, 0x81, 0x06, 0x1c, 0x0a]),
+    );
+    row(
+        b"repair n=2: ffff8004 81061c0a, all of disk 0",
+        b"01028004 81061c0a",
+        repaired(2, 2, [0xff, 0xff, 0x80, 0x04, 0x81, 0x06, 0x1c, 0x0a]),
+    );
+}
+
+// Numbers and length come before the summary: the last three rows have the bytes of the one above.
+fn refusing() {
+    row(
+        b"repair n=2: 01028004 00061cff, summary 4",
+        b"refusal 9",
+        repaired(2, 2, [0x01, 0x02, 0x80, 0x04, 0x00, 0x06, 0x1c, 0xff]),
+    );
+    row(
+        b"repair n=2: 01028004 8006180a, summary 3",
+        b"refusal 9",
+        repaired(2, 2, [0x01, 0x02, 0x80, 0x04, 0x80, 0x06, 0x18, 0x0a]),
+    );
+    row(
+        b"repair n=0, B=0: 01028004 8006180a",
+        b"refusal 1",
+        repaired(0, 0, [0x01, 0x02, 0x80, 0x04, 0x80, 0x06, 0x18, 0x0a]),
+    );
+    row(
+        b"repair n=2, B=0: 01028004 8006180a",
+        b"refusal 2",
+        repaired(2, 0, [0x01, 0x02, 0x80, 0x04, 0x80, 0x06, 0x18, 0x0a]),
+    );
+    row(
+        b"repair n=2, B=3: 01028004 8006180a",
+        b"refusal 3",
+        repaired(2, 3, [0x01, 0x02, 0x80, 0x04, 0x80, 0x06, 0x18, 0x0a]),
     );
 }
 
@@ -292,6 +352,19 @@ fn summary_with(place: usize) -> [u8; 17]
     }
 }
 
+// The stripe after its repair, or the refusal if nothing has changed.
+fn repaired(n: usize, b: usize, s: [u8; 8]) -> [u8; 17] {
+    let mut after = s;
+    let result = stripe::repair(Geometry { n, b }, &mut after);
+    if result == 0 {
+        return blocks(after);
+    }
+    if check::same(&after, &s) {
+        return refusal(result);
+    }
+    *b"refused, changed "
+}
+
 fn identity() -> [u8; 8] {
     [1, 2, 4, 8, 16, 32, 64, 128]
 }
@@ -331,6 +404,17 @@ fn parities(p: u8, q: u8) -> [u8; 17] {
     with_byte(with_byte(*b"P .., Q ..       ", 2, p), 8, q)
 }
 
+// Two disks of two bytes, and behind them P and Q.
+fn blocks(s: [u8; 8]) -> [u8; 17] {
+    let disks = with_block(
+        with_block(*b"........ ........", 0, s[0], s[1]),
+        4,
+        s[2],
+        s[3],
+    );
+    with_block(with_block(disks, 9, s[4], s[5]), 13, s[6], s[7])
+}
+
 fn refusal(number: u8) -> [u8; 17] {
     numbered(*b"refusal          ", number as u16)
 }
@@ -357,6 +441,13 @@ fn finding(judgement: Judgement) -> [u8; 17] {
             Finding::Pair(i, j) => with_digit(with_digit(*b"unfit, pair (.,.)", 13, i), 15, j),
         },
     }
+}
+
+// The text with a block of two bytes at a place.
+fn with_block(text: [u8; 17], at: usize, x: u8, y: u8) -> [u8; 17]
+    requires { ⌜ at ≤ 13 ⌝ }
+{
+    with_byte(with_byte(text, at, x), at + 2, y)
 }
 
 // The text with two hexadecimal digits at a place.
