@@ -1,2 +1,2 @@
-pub mod Passed
+pub mod CheckedBelow
 pub mod Faulty

@@ -150,6 +150,7 @@ fn repairing() {
 
 // Numbers and length come before the summary: the last three rows have the bytes of the one above.
 fn refusing() {
+    let beyond = [0x01, 0x02, 0x80, 0x04, 0x80, 0x06, 0x18, 0x0a];
     row(
         b"repair n=2: 01028004 00061cff, summary 4",
         b"refusal 9",
@@ -158,22 +159,22 @@ fn refusing() {
     row(
         b"repair n=2: 01028004 8006180a, summary 3",
         b"refusal 9",
-        repaired(2, 2, [0x01, 0x02, 0x80, 0x04, 0x80, 0x06, 0x18, 0x0a]),
+        repaired(2, 2, beyond),
     );
     row(
         b"repair n=0, B=0: 01028004 8006180a",
         b"refusal 1",
-        repaired(0, 0, [0x01, 0x02, 0x80, 0x04, 0x80, 0x06, 0x18, 0x0a]),
+        repaired(0, 0, beyond),
     );
     row(
         b"repair n=2, B=0: 01028004 8006180a",
         b"refusal 2",
-        repaired(2, 0, [0x01, 0x02, 0x80, 0x04, 0x80, 0x06, 0x18, 0x0a]),
+        repaired(2, 0, beyond),
     );
     row(
         b"repair n=2, B=3: 01028004 8006180a",
         b"refusal 3",
-        repaired(2, 3, [0x01, 0x02, 0x80, 0x04, 0x80, 0x06, 0x18, 0x0a]),
+        repaired(2, 3, beyond),
     );
 }
 

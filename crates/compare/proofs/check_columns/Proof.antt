@@ -8,12 +8,12 @@ use borrow.Rule.Slice.PartMut.{putMid}
 use lib.ListN.{length}
 use Rattle.base.proofs.Tails.{part-length}
 use Rattle.chunk.specs.Chunk.{width}
-use Rattle.compare.proofs.Passed.{Passed, room-fits, passed-none, passed-more, passed-all}
+use Rattle.compare.proofs.CheckedBelow.{CheckedBelow, room-fits, checked-none, checked-more, checked-all}
 use Rattle.compare.proofs.check_columns.Statement.{statement}
 use Rattle.compare.proofs.check_columns.Tie as tie
 
 abbrev Inv-loop : tie.InvT-loop
-Inv-loop g stripe room₀ keep found₀ i₀ room found i = Passed g stripe keep room₀ room i found
+Inv-loop g stripe room₀ keep found₀ i₀ room found i = CheckedBelow g stripe keep room₀ room i found
 
 abbrev μ-loop : tie.MeasureT-loop
 μ-loop g stripe room₀ keep found₀ i₀ room found i = g .b - i
@@ -34,7 +34,7 @@ holds-part c =
     (omega arith, omega arith)
 
 loop-holds : tie.Need-loop-holds Inv-loop μ-loop
-loop-holds c = passed-none (c .before .before .pre .1)
+loop-holds c = checked-none (c .before .before .pre .1)
 
 sub-if1 : tie.Need-sub-if1 Inv-loop μ-loop
 sub-if1 c = omega arith
@@ -77,7 +77,7 @@ loop-again : tie.Need-loop-again Inv-loop μ-loop
 loop-again c =
     let l = c .before .before .before .before .before .before .before .before .loop in
     let placed = c .before .before .before .before .before in
-    passed-more (l .i) width (l .inv) (omega arith) (omega arith) (omega arith) (placed .place .ensures) (holds placed .1) (c .before .before .before .check-chunk .ensures) (c .joined .ensures)
+    checked-more (l .i) width (l .inv) (omega arith) (omega arith) (omega arith) (placed .place .ensures) (holds placed .1) (c .before .before .before .check-chunk .ensures) (c .joined .ensures)
 
 sub-w : tie.Need-sub-w Inv-loop μ-loop
 sub-w c = omega arith
@@ -111,23 +111,23 @@ joined-requires-2 : tie.Need-joined-requires-2 Inv-loop μ-loop
 joined-requires-2 c κs = search needs
 
 -- all are passed with the part
-all : (c : tie.After-joined2 Inv-loop μ-loop) → let a = c .before .before .before .before .before .before .before .before .before .before .before .before .before .before .args in let l = c .before .before .before .before .before .before .before .before .before .before .before .loop in let at = c .before .before .before .before .before .place2 .result in let w = a .g .b - l .i in Passed (a .g) (a .stripe .now) (a .keep) (a .room .now) (putMid at (at + w - at) (l .room) (c .before .before .before .check-part .last .1 .1 .1 .0)) (l .i + w) (c .joined2 .result)
+all : (c : tie.After-joined2 Inv-loop μ-loop) → let a = c .before .before .before .before .before .before .before .before .before .before .before .before .before .before .args in let l = c .before .before .before .before .before .before .before .before .before .before .before .loop in let at = c .before .before .before .before .before .place2 .result in let w = a .g .b - l .i in CheckedBelow (a .g) (a .stripe .now) (a .keep) (a .room .now) (putMid at (at + w - at) (l .room) (c .before .before .before .check-part .last .1 .1 .1 .0)) (l .i + w) (c .joined2 .result)
 all c =
     let l = c .before .before .before .before .before .before .before .before .before .before .before .loop in
     let placed = c .before .before .before .before .before in
-    passed-more (l .i) (c .before .before .before .before .before .before .before .before .before .before .before .before .before .before .args .g .b - l .i) (l .inv) (omega arith) (omega arith) (omega arith) (placed .place2 .ensures) (holds-part placed .1) (c .before .before .before .check-part .ensures) (c .joined2 .ensures)
+    checked-more (l .i) (c .before .before .before .before .before .before .before .before .before .before .before .before .before .before .args .g .b - l .i) (l .inv) (omega arith) (omega arith) (omega arith) (placed .place2 .ensures) (holds-part placed .1) (c .before .before .before .check-part .ensures) (c .joined2 .ensures)
 
 same-length : tie.Need-same-length Inv-loop μ-loop
 same-length c = all c .long
 
 returns : tie.Need-returns Inv-loop μ-loop
-returns c = passed-all (all c) (omega arith)
+returns c = checked-all (all c) (omega arith)
 
 same-length-2 : tie.Need-same-length-2 Inv-loop μ-loop
 same-length-2 c = c .before .before .before .before .loop .inv .long
 
 returns-2 : tie.Need-returns-2 Inv-loop μ-loop
-returns-2 c = let l = c .before .before .before .before .loop in passed-all (l .inv) (omega arith)
+returns-2 c = let l = c .before .before .before .before .loop in checked-all (l .inv) (omega arith)
 
 pub check-columns-spec : {M : Type 1} → statement M
 check-columns-spec =

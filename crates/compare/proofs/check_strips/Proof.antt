@@ -7,12 +7,12 @@ use native.Mathlib.Omega.{arith}
 use lib.ListN.{length}
 use Rattle.base.proofs.Tails.{part-length}
 use Rattle.sums.specs.Strip.{strip}
-use Rattle.compare.proofs.Passed.{Passed, room-fits, passed-none, passed-more, passed-all}
+use Rattle.compare.proofs.CheckedBelow.{CheckedBelow, room-fits, checked-none, checked-more, checked-all}
 use Rattle.compare.proofs.check_strips.Statement.{statement}
 use Rattle.compare.proofs.check_strips.Tie as tie
 
 abbrev Inv-loop : tie.InvT-loop
-Inv-loop g stripe room₀ keep found₀ done₀ room found done = Passed g stripe keep room₀ room done found
+Inv-loop g stripe room₀ keep found₀ done₀ room found done = CheckedBelow g stripe keep room₀ room done found
 
 abbrev μ-loop : tie.MeasureT-loop
 μ-loop g stripe room₀ keep found₀ done₀ room found done = g .b - done
@@ -33,7 +33,7 @@ holds c =
     (omega arith, omega arith)
 
 loop-holds : tie.Need-loop-holds Inv-loop μ-loop
-loop-holds c = passed-none (c .before .before .pre .2)
+loop-holds c = checked-none (c .before .before .pre .2)
 
 next-start-requires : tie.Need-next-start-requires Inv-loop μ-loop
 next-start-requires c κs = search needs
@@ -75,13 +75,13 @@ loop-again : tie.Need-loop-again Inv-loop μ-loop
 loop-again c =
     let placed = c .before .before .before .before .before in
     let next = begins (placed .before) in
-    passed-more (placed .before .next-start .result) strip (c .before .before .before .before .before .before .before .before .before .loop .inv) (next .0) (next .1) (next .2) (placed .place .ensures) (holds placed .1) (c .before .before .before .check-strip .ensures) (c .joined .ensures)
+    checked-more (placed .before .next-start .result) strip (c .before .before .before .before .before .before .before .before .before .loop .inv) (next .0) (next .1) (next .2) (placed .place .ensures) (holds placed .1) (c .before .before .before .check-strip .ensures) (c .joined .ensures)
 
 same-length : tie.Need-same-length Inv-loop μ-loop
 same-length c = c .before .before .loop .inv .long
 
 returns : tie.Need-returns Inv-loop μ-loop
-returns c = let l = c .before .before .loop in passed-all (l .inv) (omega arith)
+returns c = let l = c .before .before .loop in checked-all (l .inv) (omega arith)
 
 pub check-strips-spec : {M : Type 1} → statement M
 check-strips-spec =

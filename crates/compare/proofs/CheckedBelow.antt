@@ -1,5 +1,5 @@
 -- A loop that goes over a stripe stretch by stretch, finds the summary of the verdicts and keeps them in a room or not. Its laws: the next
--- stretch has its room, none passed, a stretch more, whose first columns may be passed already, and all.
+-- stretch has its room, none checked, a stretch more, whose first columns may have been checked before, and all.
 -- Assumes nothing.
 use mathlib.Core.Path.{_≡_, refl, sym, ap, subst, _∙_}
 use mathlib.Core.Bool.{Bool, true, false}
@@ -22,7 +22,7 @@ use Rattle.verdict.proofs.Summary.{summary-none, summary-again, summary-as}
 use Rattle.compare.specs.Compare.{RoomFor, CheckedInto}
 
 -- found is the summary of the first i verdicts, and the room has them, if they are kept
-pub record Passed (g : Geometry) (s : List ℕ) (keep : Bool) (before room : List ℕ) (i found : ℕ) : Type 0 where
+pub record CheckedBelow (g : Geometry) (s : List ℕ) (keep : Bool) (before room : List ℕ) (i found : ℕ) : Type 0 where
   pub within : i ≤ g .b
   pub summarized : found ≡ summary (tabulate i (λ j. verdict (g .n) (column g s j)))
   pub long : length room ≡ length before
@@ -34,26 +34,26 @@ room-fits true has i w h fits = (omega arith, omega (arith, has .whole refl))
 room-fits false has i w h fits = (omega arith, omega (arith, has .scratch refl))
 
 module _ {g : Geometry} {s : List ℕ} {keep : Bool} {before : List ℕ} where
-  pub passed-none : RoomFor g keep before → Passed g s keep before before 0 0
-  passed-none has =
+  pub checked-none : RoomFor g keep before → CheckedBelow g s keep before before 0 0
+  checked-none has =
       record { within = omega arith; summarized = sym (summary-none _); long = refl; kept = λ e. fill-none (has .whole e) }
 
-  pub passed-more : {room m : List ℕ} {c found v r at : ℕ} (i w : ℕ) → Passed g s keep before room c found → i ≤ c → c ≤ i + w → i + w ≤ g .b
+  pub checked-more : {room m : List ℕ} {c found v r at : ℕ} (i w : ℕ) → CheckedBelow g s keep before room c found → i ≤ c → c ≤ i + w → i + w ≤ g .b
       → at ≡ choose keep i 0
       → at + w ≤ length room
       → WithSummary (tabulate (length (take (at + w - at) (drop at room))) (λ j. verdict (g .n) (column g s (i + j)))) v m
       → r ≡ joined found v
-      → Passed g s keep before (putMid at (at + w - at) room m) (i + w) r
-  passed-more {room} {m} {c} {v = v} {at = at} i w passed begins reaches fits is holds told step =
+      → CheckedBelow g s keep before (putMid at (at + w - at) room m) (i + w) r
+  checked-more {room} {m} {c} {v = v} {at = at} i w below begins reaches fits is holds told step =
       record {
         within = fits;
-        summarized = summary-again f i w c begins reaches (passed .summarized) (part .result) step;
-        long = same-len-mid at (at + w - at) room m (ap length (told .room) ∙ length-tabulate _ _) ∙ passed .long;
+        summarized = summary-again f i w c begins reaches (below .summarized) (part .result) step;
+        long = same-len-mid at (at + w - at) room m (ap length (told .room) ∙ length-tabulate _ _) ∙ below .long;
         kept =
             λ e.
             let here : at ≡ i = is ∙ ap (λ (k : Bool). choose k i 0) e in
             subst (λ (a : ℕ). Filled (λ j v. f j) (g .b) before (take a room ++ (m ++ drop (at + w - at) (drop at room))) (i + w)) (sym here)
-            (fill-over i w (passed .kept e) begins reaches fits (part .room) (post-is at (at + w) room (omega arith) ∙ ap (λ (a : ℕ). drop (a + w) room) here));
+            (fill-over i w (below .kept e) begins reaches fits (part .room) (post-is at (at + w) room (omega arith) ∙ ap (λ (a : ℕ). drop (a + w) room) here));
       }
     where
       f : ℕ → ℕ
@@ -62,9 +62,9 @@ module _ {g : Geometry} {s : List ℕ} {keep : Bool} {before : List ℕ} where
       part : WithSummary (tabulate w (λ j. f (i + j))) v m
       part = summary-as (ap (λ (k : ℕ). tabulate k (λ j. f (i + j))) (part-length room at (at + w) (omega arith) holds ∙ omega arith)) told
 
-  pub passed-all : {room : List ℕ} {i found : ℕ} → Passed g s keep before room i found → i ≡ g .b → CheckedInto g s keep found room
-  passed-all passed all =
+  pub checked-all : {room : List ℕ} {i found : ℕ} → CheckedBelow g s keep before room i found → i ≡ g .b → CheckedInto g s keep found room
+  checked-all below all =
       record {
-        result = passed .summarized ∙ ap (λ (k : ℕ). summary (tabulate k (λ j. verdict (g .n) (column g s j)))) all;
-        room = λ e. fill-all (passed .kept e) (omega arith);
+        result = below .summarized ∙ ap (λ (k : ℕ). summary (tabulate k (λ j. verdict (g .n) (column g s j)))) all;
+        room = λ e. fill-all (below .kept e) (omega arith);
       }
