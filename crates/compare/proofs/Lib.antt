@@ -1,2 +1,3 @@
 pub mod CheckedBelow
 pub mod Faulty
+pub mod Order

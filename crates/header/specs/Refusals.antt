@@ -12,9 +12,7 @@ use Rattle.devices.specs.declared.Named.{Named}
 use Rattle.shape.specs.Layout.{size}
 use Rattle.shape.specs.Refusals.{library, refusal1, refusal2, refusal3}
 use Rattle.devices.specs.Codes.{lossOf, misnamed, namedTwice, noDevices}
-use Rattle.verdict.specs.Summary.{summary}
-use Rattle.compare.specs.Compare.{verdicts}
-use Rattle.compare.specs.Repair.{unclear}
+use Rattle.compare.specs.Repair as Repair
 use Rattle.header.specs.Header.{mark, versionOf, commandOf, geometryOf, firstDevice, secondDevice, stripeOf}
 
 -- a job shorter than 14 bytes
@@ -61,7 +59,7 @@ refusal5 first second = record { number = 5; applies = namedTwice (lossOf first 
 
 -- a repair of a stripe whose summary names no one device
 abbrev pub refusal9 : Geometry → ℕ → List ℕ → Refusal
-refusal9 g command s = record { number = 9; applies = both (eqb command 4) (unclear (summary (verdicts g s))) }
+refusal9 g command s = record { number = 9; applies = both (eqb command 4) (Repair.refusal9 g s .applies) }
 
 -- ---- the order
 abbrev pub order : List ℕ → Geometry → List Refusal

@@ -5,10 +5,9 @@ use mathlib.Core.Logic.{_≢_, _⊎_, ⊎-elim}
 use mathlib.Core.List.{List, [], _∷_}
 use Prim.Native.Nat.{ℕ}
 use native.Mathlib.Omega.{arith}
-use borrow.Author.Tests.{eq-eqb}
 use lib.ListN.{length}
 use Rattle.base.specs.Choice.{choose}
-use Rattle.base.proofs.Refused.{first-none, none-applies, refused-first, refused-then, left-alone, left-done}
+use Rattle.base.proofs.Refused.{first-none, none-applies, left-alone, left-done}
 use Rattle.column.specs.declared.Device.{Device}
 use Rattle.column.specs.declared.Lost.the-variants.{One}
 use Rattle.column.proofs.Mend.{mend-is-rebuild}
@@ -24,6 +23,7 @@ use Rattle.verdict.specs.Faulty.{faultyOf}
 use Rattle.verdict.specs.Summary.{summary}
 use Rattle.compare.specs.Compare.{verdicts, summaryOf}
 use Rattle.compare.specs.Repair.{unclear, refusal9, repairRefusal}
+use Rattle.compare.proofs.Order.{shape-first, found-is, summary-then}
 use Rattle.compare.proofs.Faulty.{Names, summary-known, faulty-right, clear-names}
 use Rattle.stripe.specs.Stripe.{rebuilt, mendedOn, repaired}
 use Rattle.stripe.specs.Calls.{afterRebuild, afterRepair, RebuildCall, RepairCall}
@@ -80,15 +80,14 @@ module _ (g : Geometry) (s : List ℕ) {k : ℕ} (first : k ≡ encodeRefusal g 
   refused-call e n = record { result = e; stripe = sym (repair-refused g s (λ none. n (e ∙ none))) }
 
   pub shape-refuses : k ≢ 0 → RepairCall g s k s
-  shape-refuses n = refused-call (refused-first (shapeRefusals library g (length s)) (refusal9 g s ∷ []) first n) n
+  shape-refuses n = refused-call (shape-first g s first n) n
 
   module _ (none : k ≡ 0) {v r : ℕ} (found : v ≡ summaryOf g s) (second : r ≡ choose (unclear v) 9 0) where
     is : v ≡ summary (verdicts g s)
-    is = rw (eq-eqb (encodeRefusal g (length s)) 0 (sym first ∙ none)) at found
+    is = found-is g s first none found
 
     order : r ≡ repairRefusal g s
-    order =
-        refused-then (shapeRefusals library g (length s)) (refusal9 g s ∷ []) first refl none (second ∙ ap (λ (v : ℕ). choose (unclear v) 9 0) is)
+    order = summary-then g s first none found second
 
     pub summary-refuses : r ≢ 0 → RepairCall g s r s
     summary-refuses = refused-call order
