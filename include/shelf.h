@@ -45,9 +45,9 @@ extern "C" {
 #endif
 
 /* This header's version, and its parts. */
-#define SHELF_VERSION "0.3.0"
+#define SHELF_VERSION "0.4.0"
 #define SHELF_VERSION_MAJOR 0
-#define SHELF_VERSION_MINOR 3
+#define SHELF_VERSION_MINOR 4
 #define SHELF_VERSION_PATCH 0
 
 /* The largest n and the largest b. */
@@ -70,7 +70,7 @@ extern "C" {
 #define SHELF_BAD_LENGTH 3   /* stripe_len isn't (n + 2) * b */
 #define SHELF_BAD_DEVICE 4   /* a data disk is n or more, or a device code has no meaning or is missing */
 #define SHELF_SAME_DEVICE 5  /* the same device twice */
-#define SHELF_BAD_STRETCH 6  /* offset is above b, or count is above b - offset */
+#define SHELF_BAD_STRETCH 6  /* count is 0, offset is above b, or count is above b - offset */
 #define SHELF_BAD_ROOM 7     /* the count of verdicts isn't b */
 #define SHELF_UNCLEAR 9      /* the bytes don't tell which device to repair; no call returns 8 */
 
@@ -113,17 +113,18 @@ uint8_t shelf_encode(uint64_t n, uint64_t b, uint8_t *stripe, size_t stripe_len)
  *   stripe      the stripe: written at the stretch and at its columns of P and Q; no other byte changes
  *   stripe_len  (n + 2) * b
  *   disk        the data disk, 0 to n - 1
- *   offset      where the stretch starts in the disk's block, in bytes, 0 to b
+ *   offset      where the stretch starts in the disk's block, in bytes, 0 to b - 1
  *   bytes       the new bytes, which are only read. They must not overlap the stripe: the compiled code counts on it, as
  *               memcpy does, and where they do nothing is promised of the stripe
- *   count       how many, 0 to b - offset; with 0 the call is done and changes nothing
+ *   count       how many: at least 1, at most b - offset. A write of none is refused, whatever the offset, so that one
+ *               that is done has put bytes on the disk
  *
  * Refusals, in order:
  *   1  n is 0 or above 255
  *   2  b is 0 or above 65536
  *   3  stripe_len isn't (n + 2) * b
  *   4  disk is n or more
- *   6  offset is above b, or count is above b - offset
+ *   6  count is 0, offset is above b, or count is above b - offset
  */
 SHELF_USE_RESULT
 uint8_t shelf_write(uint64_t n, uint64_t b, uint8_t *stripe, size_t stripe_len, uint64_t disk, uint64_t offset,

@@ -95,7 +95,7 @@ static void stretches(void)
     REFUSED(SHELF_BAD_DEVICE, shelf_write(N, B, stripe, LENGTH, N, 0, bytes, 1));
     REFUSED(SHELF_BAD_DEVICE, shelf_write(N, B, stripe, LENGTH, N, B + 1, bytes, 1));
     REFUSED(SHELF_BAD_DEVICE, shelf_write(N, B, stripe, LENGTH, SHELF_P, 0, bytes, 1));
-    REFUSED(SHELF_BAD_STRETCH, shelf_write(N, B, stripe, LENGTH, 0, B + 1, bytes, 0));
+    REFUSED(SHELF_BAD_STRETCH, shelf_write(N, B, stripe, LENGTH, 0, B + 1, bytes, 1));
     REFUSED(SHELF_BAD_STRETCH, shelf_write(N, B, stripe, LENGTH, 1, 0, bytes, B + 1));
     REFUSED(SHELF_BAD_STRETCH, shelf_write(N, B, stripe, LENGTH, 1, 1, bytes, B));
     REFUSED(SHELF_BAD_STRETCH, shelf_write(N, B, stripe, LENGTH, 1, B, bytes, 1));
@@ -104,12 +104,23 @@ static void stretches(void)
         REFUSED(SHELF_BAD_STRETCH, shelf_write(N, B, stripe, LENGTH, 0, WIDE[k], bytes, 1));
         REFUSED(SHELF_BAD_STRETCH, shelf_write(N, B, stripe, LENGTH, 0, WIDE[k], bytes, 2));
     }
-    for (uint64_t offset = 0; offset <= B; offset++) {
-        DONE(shelf_write(N, B, stripe, LENGTH, 1, offset, bytes, 0));
-        CHECK(untouched());
-        DONE(shelf_write(N, B, stripe, LENGTH, 1, offset, NULL, 0));
-        CHECK(untouched());
+    for (uint64_t offset = 0; offset < B; offset++)
         DONE(shelf_write(N, B, stripe, LENGTH, 1, offset, bytes, B - offset));
+}
+
+/* No new bytes, with a pointer and without: an unknown disk comes first, and no offset makes it a write. */
+static void empty_writes(void)
+{
+    const uint64_t offsets[] = {0, 1, B, B + 1, UINT64_MAX};
+    for (size_t k = 0; k < sizeof offsets / sizeof *offsets; k++) {
+        const uint8_t *sources[] = {bytes, NULL};
+        for (int j = 0; j < 2; j++) {
+            REFUSED(SHELF_BAD_STRETCH, shelf_write(N, B, stripe, LENGTH, 0, offsets[k], sources[j], 0));
+            REFUSED(SHELF_BAD_STRETCH, shelf_write(N, B, stripe, LENGTH, N - 1, offsets[k], sources[j], 0));
+            REFUSED(SHELF_BAD_DEVICE, shelf_write(N, B, stripe, LENGTH, N, offsets[k], sources[j], 0));
+            REFUSED(SHELF_BAD_DEVICE, shelf_write(N, B, stripe, LENGTH, SHELF_P, offsets[k], sources[j], 0));
+            REFUSED(SHELF_BAD_LENGTH, shelf_write(N, B, stripe, LENGTH - 1, 0, offsets[k], sources[j], 0));
+        }
     }
 }
 
@@ -218,8 +229,9 @@ static void limits(void)
 
     CHECK(shelf_write(1, most, room, 3 * most, 0, most - 1, bytes, 2) == SHELF_BAD_STRETCH);
     CHECK(shelf_write(1, most, room, 3 * most, 0, most, bytes, 1) == SHELF_BAD_STRETCH);
-    CHECK(shelf_write(1, most, room, 3 * most, 0, above, bytes, 0) == SHELF_BAD_STRETCH);
-    CHECK(shelf_write(1, most, room, 3 * most, 0, most, bytes, 0) == SHELF_DONE);
+    CHECK(shelf_write(1, most, room, 3 * most, 0, above, bytes, 1) == SHELF_BAD_STRETCH);
+    CHECK(shelf_write(1, most, room, 3 * most, 0, most - 1, bytes, 0) == SHELF_BAD_STRETCH);
+    CHECK(shelf_write(1, most, room, 3 * most, 0, most, bytes, 0) == SHELF_BAD_STRETCH);
     CHECK(shelf_check(1, most, room, 3 * most, found, above, summary) == SHELF_BAD_ROOM);
     CHECK(shelf_repair(1, most, room, 3 * most) == SHELF_UNCLEAR);
     CHECK(memcmp(room, before, sizeof room) == 0);
@@ -268,6 +280,7 @@ int main(void)
         return 2;
     RUN(shapes);
     RUN(stretches);
+    RUN(empty_writes);
     RUN(devices);
     RUN(rooms);
     RUN(unclear);

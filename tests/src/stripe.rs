@@ -71,7 +71,8 @@ pub fn encode(n: u64, b: u64, stripe: &mut [u8]) -> u8 {
 
 pub fn write(n: u64, b: u64, stripe: &mut [u8], disk: u64, offset: u64, bytes: &[u8]) -> u8 {
     let too_far = u128::from(offset) + bytes.len() as u128 > u128::from(b);
-    let refusal = first(&[bad_n(n), bad_b(b), bad_length(n, b, stripe.len()), (4, disk >= n), (6, offset > b || too_far)]);
+    let refusal =
+        first(&[bad_n(n), bad_b(b), bad_length(n, b, stripe.len()), (4, disk >= n), (6, bytes.is_empty() || offset > b || too_far)]);
     if refusal == 0 {
         let start = offset as usize;
         change(b, stripe, start..start + bytes.len(), |i, column| column::write(column, disk as usize, bytes[i - start]));
@@ -160,12 +161,14 @@ mod tests {
     #[test]
     fn write_refuses_in_order() {
         let mut stripe = [0; 6];
-        assert_eq!(write(1, 2, &mut stripe, 1, 3, &[]), 4);
-        assert_eq!(write(1, 2, &mut stripe, 0, 3, &[]), 6);
+        for offset in [0, 1, 2, 3, u64::MAX] {
+            assert_eq!(write(1, 2, &mut stripe, 1, offset, &[]), 4);
+            assert_eq!(write(1, 2, &mut stripe, 0, offset, &[]), 6);
+        }
+        assert_eq!(write(1, 2, &mut stripe, 0, 2, &[7]), 6);
         assert_eq!(write(1, 2, &mut stripe, 0, 1, &[7, 7]), 6);
         assert_eq!(write(1, 2, &mut stripe, 0, u64::MAX, &[7]), 6);
         assert_eq!(stripe, [0; 6]);
-        assert_eq!(write(1, 2, &mut stripe, 0, 2, &[]), 0);
         assert_eq!(write(1, 2, &mut stripe, 0, 1, &[7]), 0);
         assert_eq!(stripe, [0, 7, 0, 7, 0, 7]);
     }

@@ -53,8 +53,8 @@ mod tests {
             let mut table = Table::new(n, b, &stripe);
             for _ in 0..20 {
                 let disk = random.within(0, n as usize - 1) as u64;
-                let offset = random.within(0, b as usize);
-                let count = random.within(0, b as usize - offset);
+                let offset = random.within(0, b as usize - 1);
+                let count = random.within(1, b as usize - offset);
                 let bytes = random.bytes(count);
                 assert_eq!(write(n, b, &mut stripe, disk, offset as u64, &bytes), 0);
                 table.accepted_write(disk, offset as u64, &bytes);

@@ -61,8 +61,8 @@ fn random_stripe(random: &mut Random, n: u64, b: u64) -> Vec<u8> {
 
 /// A write that is accepted.
 fn random_write(random: &mut Random, n: u64, b: u64) -> Call {
-    let offset = random.within(0, b as usize);
-    let count = random.within(0, b as usize - offset);
+    let offset = random.within(0, b as usize - 1);
+    let count = random.within(1, b as usize - offset);
     Call::Write { disk: random.within(0, n as usize - 1) as u64, offset: offset as u64, bytes: random.bytes(count) }
 }
 
@@ -143,7 +143,7 @@ fn recover_in_any_order(random: &mut Random, n: u64, b: u64, encoded: &[u8], fir
 
 /// Writes that end with the block, and writes that would end past it.
 fn writes_about_the_end(random: &mut Random, n: u64, b: u64, stripe: &mut [u8]) {
-    for (offset, count, result) in [(b - 1, 1, 0), (0, b, 0), (b, 0, 0), (b - 1, 2, 6), (b, 1, 6), (0, b + 1, 6), (b + 1, 0, 6)] {
+    for (offset, count, result) in [(b - 1, 1, 0), (0, b, 0), (b - 1, 2, 6), (b, 1, 6), (b + 1, 1, 6), (0, b + 1, 6)] {
         let bytes = random.bytes(count as usize);
         assert_eq!(Call::Write { disk: n - 1, offset, bytes }.compare(n, b, stripe), result);
     }
@@ -279,8 +279,8 @@ fn stretches_that_begin_and_end_about_a_chunk() {
     let mut random = Random::new(9);
     let (n, b) = (3, 130);
     let mut stripe = random_stripe(&mut random, n, b);
-    for offset in [0, 1, 2, 63, 64, 65, 66, 67, 129, 130] {
-        for count in 0..=b - offset {
+    for offset in [0, 1, 2, 63, 64, 65, 66, 67, 129] {
+        for count in 1..=b - offset {
             let (disk, bytes) = (count % n, random.bytes(count as usize));
             assert_eq!(Call::Write { disk, offset, bytes }.compare(n, b, &mut stripe), 0);
         }
@@ -298,9 +298,30 @@ fn any_stretch_of_a_block() {
                 for count in 0..=b + 1 {
                     let bytes = random.bytes(count as usize);
                     let result = Call::Write { disk, offset, bytes }.compare(n, b, &mut stripe);
-                    assert_eq!(result, if offset + count > b { 6 } else { 0 });
+                    assert_eq!(result, if count == 0 || offset + count > b { 6 } else { 0 });
                 }
             }
+        }
+    }
+}
+
+/// Writes of no bytes, with a pointer and without: 4 where the disk isn't there, else 6, whatever the offset.
+#[test]
+fn empty_writes() {
+    let mut random = Random::new(12);
+    for n in FEW_DISKS {
+        for b in [1, 2, 64, LARGEST_BLOCK] {
+            let before = random_stripe(&mut random, n, b);
+            let mut stripe = before.clone();
+            for (disk, result) in [(0, 6), (n - 1, 6), (n, 4), (P, 4), (u64::MAX, 4)] {
+                for offset in [0, b - 1, b, b + 1, u64::MAX] {
+                    assert_eq!(Call::Write { disk, offset, bytes: vec![] }.compare(n, b, &mut stripe), result);
+                    for bytes in [std::ptr::null(), before.as_ptr()] {
+                        assert_eq!(unsafe { shelf_write(n, b, stripe.as_mut_ptr(), stripe.len(), disk, offset, bytes, 0) }, result);
+                    }
+                }
+            }
+            assert!(stripe == before, "n {n}, b {b}");
         }
     }
 }
@@ -344,7 +365,7 @@ fn any_call(random: &mut Random, n: u64, b: u64) -> Call {
     match random.within(0, 4) {
         0 => Call::Encode,
         1 | 2 => {
-            let count = random.within(0, b as usize + 1);
+            let count = if random.once_in(8) { 0 } else { random.within(1, b as usize + 1) };
             Call::Write {
                 disk: any_number(random, &[0, n - 1, n]),
                 offset: any_number(random, &[0, 1, b / 2, b - 1, b, b + 1]),

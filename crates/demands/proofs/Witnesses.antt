@@ -26,8 +26,8 @@ use Rattle.shape.specs.Refusals.{library, shapeRefusals, stretchRefusals, encod
 use Rattle.devices.specs.Refusals.{lossRefusals, rebuildRefusal}
 use Rattle.devices.specs.Codes.{namedBy, namingOf, namedRefusal}
 use Rattle.shape.proofs.Places.{lift-at}
-use Rattle.shape.proofs.Refused.{well-shaped}
-use Rattle.shape.proofs.Accepts.{write-accepts}
+use Rattle.shape.proofs.Refused.{well-shaped, empty-write-refused}
+use Rattle.shape.proofs.Accepts.{write-accepts, empty-write-six}
 use Rattle.devices.proofs.Accepts.{rebuild-accepts}
 use Rattle.write.specs.Write.{afterWrite}
 use Rattle.stripe.specs.Calls.{afterRebuild, afterRepair, rebuiltBy}
@@ -35,8 +35,8 @@ use Rattle.demands.specs.Layout.{layoutOf}
 use Rattle.demands.specs.Series.{EncodedStripe, Member, GivesNothing, Without, end, keep, drop}
 use Rattle.demands.specs.Members.{writeMember, refusedRebuild, lose, lossMember, damageMember, refusedRepair}
 use Rattle.demands.specs.Called.{Slice, Loses, Step, writes, refuses, refuses-codes, refuses-repair, rebuilds, rebuilds-codes, repairs}
-use Rattle.demands.proofs.Bytes.{slice-bytes}
-use Rattle.demands.proofs.Accepted.{lose-loses}
+use Rattle.demands.proofs.Bytes.{slice-bytes, bytes-slice}
+use Rattle.demands.proofs.Accepted.{write-refused, lose-loses}
 use Rattle.demands.proofs.Repairs.{damage-accepted}
 
 -- ---- what a loss puts where
@@ -66,10 +66,10 @@ module _ (g : Geometry) (encoded : Type 0) (s : List ℕ) (fits : encodeRefusal 
   shaped : WellShaped g s
   shaped = well-shaped g s fits
 
-  pub accepted-write : (disk offset : ℕ) (new : List ℕ) → Slice new → disk < g .n → offset ≤ g .b → length new ≤ g .b - offset
+  pub accepted-write : (disk offset : ℕ) (new : List ℕ) → Slice new → disk < g .n → 0 < length new → offset ≤ g .b → length new ≤ g .b - offset
       → Step g encoded s (writeMember (length s) g disk offset new) (afterWrite g disk offset new s)
-  accepted-write disk offset new slice hd ho hc =
-      writes g disk offset new 0 slice (λ e. refl) record { result = sym (write-accepts g (length s) fits disk offset (length new) hd ho hc); stripe = refl }
+  accepted-write disk offset new slice hd hs ho hc =
+      writes g disk offset new 0 slice (λ e. refl) record { result = sym (write-accepts g (length s) fits disk offset (length new) hd hs ho hc); stripe = refl }
 
   -- disk n
   pub refused-write : (offset : ℕ) (new : List ℕ) → Slice new → Step g encoded s (writeMember (length s) g (g .n) offset new) (afterWrite g (g .n) offset new s)
@@ -79,6 +79,12 @@ module _ (g : Geometry) (encoded : Type 0) (s : List ℕ) (fits : encodeRefusal 
         result = sym (first-passed (shapeRefusals library g (length s)) (stretchRefusals g (g .n) offset (length new)) refl fits ∙ simp (le-leb (g .n) (g .n) (le-refl (g .n))));
         stripe = refl;
       }
+
+  -- no bytes, at any offset of a disk that is there
+  pub empty-write : (disk offset : ℕ) → disk < g .n → Step g encoded s (writeMember (length s) g disk offset []) s
+  empty-write disk offset hd =
+      writes g disk offset [] 6 (bytes-slice [] (λ j. omega arith)) (λ e. absurd (omega arith))
+      record { result = sym (empty-write-six g (length s) fits disk offset hd); stripe = sym (write-refused g disk offset [] s (empty-write-refused g (length s) disk offset)) }
 
   pub refused-rebuild : Step g encoded s (refusedRebuild g (Loss (One (Data (g .n))))) (afterRebuild g (One (Data (g .n))) s)
   refused-rebuild =
@@ -157,6 +163,9 @@ refused-rebuild-gives-nothing h naming k p = refl
 pub refused-write-gives-nothing : (len : ℕ) (h : Geometry) (disk offset : ℕ) (new : List ℕ) → writeRefusal h len disk offset (length new) ≢ 0
     → GivesNothing (writeMember len h disk offset new)
 refused-write-gives-nothing len h disk offset new n k p = rw (ne-eqb (writeRefusal h len disk offset (length new)) 0 n)
+
+pub empty-write-gives-nothing : (len : ℕ) (h : Geometry) (disk offset : ℕ) → GivesNothing (writeMember len h disk offset [])
+empty-write-gives-nothing len h disk offset = refused-write-gives-nothing len h disk offset [] (empty-write-refused h len disk offset)
 
 without-none : (ms : List Member) → Without ms ms
 without-none [] = end

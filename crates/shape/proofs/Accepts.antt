@@ -18,10 +18,14 @@ shape-accepts g s shaped =
 
 -- ---- after refusals 1 to 3
 module _ (g : Geometry) (len : ℕ) (fits : encodeRefusal g len ≡ 0) where
-  pub write-accepts : (disk offset count : ℕ) → disk < g .n → offset ≤ g .b → count ≤ g .b - offset → writeRefusal g len disk offset count ≡ 0
-  write-accepts disk offset count hd ho hc =
+  pub write-accepts : (disk offset count : ℕ) → disk < g .n → 0 < count → offset ≤ g .b → count ≤ g .b - offset → writeRefusal g len disk offset count ≡ 0
+  write-accepts disk offset count hd hs ho hc =
       first-passed (shapeRefusals library g len) (stretchRefusals g disk offset count) refl fits
-      ∙ simp (lt-leb (g .n) disk hd, le-ltb (g .b) offset ho, le-ltb (g .b - offset) count hc)
+      ∙ simp (lt-leb (g .n) disk hd, ne-eqb count 0 (omega (arith, hs)), le-ltb (g .b) offset ho, le-ltb (g .b - offset) count hc)
+
+  -- a write of no bytes to a disk that is there, at any offset
+  pub empty-write-six : (disk offset : ℕ) → disk < g .n → writeRefusal g len disk offset 0 ≡ 6
+  empty-write-six disk offset hd = first-passed (shapeRefusals library g len) (stretchRefusals g disk offset 0) refl fits ∙ simp (lt-leb (g .n) disk hd)
 
   pub check-accepts : (room : ℕ) → room ≡ g .b → checkRefusal g len room ≡ 0
   check-accepts room e = first-passed (shapeRefusals library g len) (refusal7 g room ∷ []) refl fits ∙ simp (eq-eqb room (g .b) e)

@@ -1,12 +1,15 @@
 -- What a call that is not refused tells of its numbers: the stripe is well shaped, and the disk and the stretch are of it.
 -- Assumes nothing.
 use mathlib.Core.Path.{_≡_, refl}
+use mathlib.Core.Logic.{_≢_}
 use mathlib.Core.List.{List, [], _∷_}
 use Prim.Native.Nat.{ℕ, _-_, _≤_, _<_}
 use native.Mathlib.Nat.{pos-of-ne-zero}
+use native.Mathlib.Omega.{arith}
 use borrow.Author.Tests.{leb-false, eqb-false, eqb-true, ltb-false, not-false}
 use lib.Dec.{eqb, ltb}
 use lib.ListN.{length}
+use Rattle.base.specs.Choice.{either}
 use Rattle.base.specs.Refusal.{firstOf}
 use Rattle.base.proofs.Choice.{either-false}
 use Rattle.base.proofs.Refused.{none-applies, first-none}
@@ -54,12 +57,16 @@ well-shaped g s e =
 
 -- ---- calls that are accepted
 pub write-accepted : (g : Geometry) (len disk offset count : ℕ) → writeRefusal g len disk offset count ≡ 0
-    → (encodeRefusal g len ≡ 0) × (disk < g .n) × (offset ≤ g .b) × (count ≤ g .b - offset)
+    → (encodeRefusal g len ≡ 0) × (disk < g .n) × (0 < count) × (offset ≤ g .b) × (count ≤ g .b - offset)
 write-accepted g len disk offset count e =
     let parts = first-none (shapeRefusals library g len) (stretchRefusals g disk offset count) refl e in
     let none = none-applies (stretchRefusals g disk offset count) refl (parts .1) in
-    let six = either-false (ltb (g .b) offset) (ltb (g .b - offset) count) (none .1 .0) in
-    (parts .0, leb-false (g .n) disk (none .0), ltb-false (g .b) offset (six .0), ltb-false (g .b - offset) count (six .1))
+    let six = either-false (eqb count 0) (either (ltb (g .b) offset) (ltb (g .b - offset) count)) (none .1 .0) in
+    let fits = either-false (ltb (g .b) offset) (ltb (g .b - offset) count) (six .1) in
+    (parts .0, leb-false (g .n) disk (none .0), pos-of-ne-zero (eqb-false count 0 (six .0)), ltb-false (g .b) offset (fits .0), ltb-false (g .b - offset) count (fits .1))
+
+pub empty-write-refused : (g : Geometry) (len disk offset : ℕ) → writeRefusal g len disk offset 0 ≢ 0
+empty-write-refused g len disk offset e = absurd (omega (arith, write-accepted g len disk offset 0 e .2))
 
 pub check-accepted : (g : Geometry) (len room : ℕ) → checkRefusal g len room ≡ 0 → (encodeRefusal g len ≡ 0) × (room ≡ g .b)
 check-accepted g len room e =

@@ -31,9 +31,9 @@ refusal3 g len = record { number = 3; applies = not (eqb len (size g)) }
 abbrev pub refusal4 : Geometry → ℕ → Refusal
 refusal4 g disk = record { number = 4; applies = leb (g .n) disk }
 
--- offset above B, or new bytes longer than B − offset
+-- no new bytes, offset above B, or new bytes longer than B − offset
 abbrev pub refusal6 : Geometry → ℕ → ℕ → Refusal
-refusal6 g offset count = record { number = 6; applies = either (ltb (g .b) offset) (ltb (g .b - offset) count) }
+refusal6 g offset count = record { number = 6; applies = either (eqb count 0) (either (ltb (g .b) offset) (ltb (g .b - offset) count)) }
 
 -- the verdict buffer isn't B long
 abbrev pub refusal7 : Geometry → ℕ → Refusal

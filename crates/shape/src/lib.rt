@@ -84,6 +84,9 @@ pub fn stretch_refusal(g: Geometry, disk: usize, offset: usize, count: usize) ->
     if g.n <= disk {
         return 4;
     }
+    if count == 0 {
+        return 6;
+    }
     if g.b < offset {
         return 6;
     }
