@@ -11,7 +11,6 @@ ghost use Rattle.serials.specs.Serials.{serials};
 ghost use Rattle.roster.specs.Text.{rosterText};
 ghost use Rattle.roster.specs.Calls.{writtenOf, judgeAnswer, ReadCall, WriteCall};
 
-
 const LINE_FEED: u8 = 10;
 
 // A roster's slots, or the first fault and its line.
