@@ -70,3 +70,10 @@ module _ (chars : List ℕ) where
   pub later-serial : (start : ℕ) (ends : List ℕ) {slot before : ℕ} → slot ≡ suc before → slot < length ends
       → getD (serialsFrom start chars ends) slot [] ≡ take (getD ends slot 0 - suc (getD ends before 0)) (drop (suc (getD ends before 0)) chars)
   later-serial start ends {slot} {before} e h = rw e (later start ends before (omega arith))
+
+  -- one end more lends one serial more, which begins after the end before it
+  pub serials-more : (start : ℕ) (ends : List ℕ) (before end : ℕ)
+      → serialsFrom start chars ((ends ++ (before ∷ [])) ++ (end ∷ [])) ≡ serialsFrom start chars (ends ++ (before ∷ [])) ++ (take (end - suc before) (drop (suc before) chars) ∷ [])
+  unfolding serialsFrom
+  serials-more start [] before end = refl
+  serials-more start (e ∷ ends) before end = ap (_∷_ (take (e - start) (drop start chars))) (serials-more (suc e) ends before end)

@@ -1,0 +1,59 @@
+-- The laws of the search for the first fault: a line that fails a test ends it, one that passes leaves it to the others. And what a line that passes
+-- has, beyond its tests' words.
+-- Assumes nothing.
+use mathlib.Core.Path.{_≡_, refl, sym, ap, _∙_}
+use mathlib.Core.Bool.{Bool}
+use mathlib.Core.List.{List, [], _∷_, _++_}
+use Prim.Native.Nat.{ℕ, suc, _≤_, _<_}
+use native.Mathlib.Omega.{arith}
+use borrow.Author.Tests.{ltb-false}
+use lib.Dec.{eqb}
+use lib.ListN.{length}
+use Rattle.base.specs.Refusal.{Answer}
+use Rattle.base.proofs.Choice.{either-false}
+use Rattle.base.proofs.Refused.{none-applies}
+use Rattle.lines.specs.declared.Fault.{Fault}
+use Rattle.lines.specs.declared.Fault.the-variants.{BadCharacter, BadLength, NoLineFeed, Repeated, PastLast}
+use Rattle.lines.specs.Lines.{Line}
+use Rattle.lines.specs.Faults.{numberOf, lineRefusals, lineNumber, unlessFaulty, firstFault}
+
+given : (f : Fault) (line : ℕ) (next : Answer) → unlessFaulty (numberOf f) line next ≡ record { number = numberOf f; values = line ∷ [] }
+given BadCharacter line next = refl
+given BadLength line next = refl
+given NoLineFeed line next = refl
+given Repeated line next = refl
+given PastLast line next = refl
+
+module _ (before : List (List ℕ)) (serial : List ℕ) (ended : Bool) (ls : List Line) (fine : Answer) where
+  abbrev searched : Answer
+  searched = firstFault before (record { serial = serial; ended = ended } ∷ ls) fine
+
+  pub fault-here : (f : Fault) → numberOf f ≡ lineNumber before serial ended → searched ≡ record { number = numberOf f; values = suc (length before) ∷ [] }
+  unfolding firstFault
+  fault-here f e = rw (← e) (given f (suc (length before)) _)
+
+  pub fault-later : 0 ≡ lineNumber before serial ended → searched ≡ firstFault (before ++ (serial ∷ [])) ls fine
+  unfolding firstFault
+  fault-later e = rw (← e)
+
+-- ---- a line that passes
+module _ (before : List (List ℕ)) (serial : List ℕ) (ended : Bool) (e : 0 ≡ lineNumber before serial ended) where
+  pub fine-length : length serial ≤ 20
+  unfolding lineNumber
+  fine-length =
+      let passed = none-applies (lineRefusals before record { serial = serial; ended = ended }) refl (sym e) in
+      ltb-false 20 (length serial) (either-false (eqb (length serial) 0) _ (passed .1 .0) .1)
+
+  pub fine-slot : length before < 257
+  unfolding lineNumber
+  fine-slot =
+      let passed = none-applies (lineRefusals before record { serial = serial; ended = ended }) refl (sym e) in
+      ltb-false 257 (suc (length before)) (passed .1 .1 .1 .1 .0)
+
+-- a fault has a number
+pub faulty : (f : Fault) → 0 < numberOf f
+faulty BadCharacter = omega arith
+faulty BadLength = omega arith
+faulty NoLineFeed = omega arith
+faulty Repeated = omega arith
+faulty PastLast = omega arith

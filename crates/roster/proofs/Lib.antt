@@ -1,0 +1,4 @@
+pub mod First
+pub mod Text
+pub mod ReadTo
+pub mod Calls
