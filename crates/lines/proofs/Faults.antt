@@ -2,9 +2,10 @@
 -- has, beyond its tests' words.
 -- Assumes nothing.
 use mathlib.Core.Path.{_≡_, refl, sym, ap, _∙_}
+use mathlib.Core.Logic.{_≢_}
 use mathlib.Core.Bool.{Bool}
 use mathlib.Core.List.{List, [], _∷_, _++_}
-use Prim.Native.Nat.{ℕ, suc, _≤_, _<_}
+use Prim.Native.Nat.{ℕ, zero, suc, _≤_, _<_}
 use native.Mathlib.Omega.{arith}
 use borrow.Author.Tests.{ltb-false}
 use lib.Dec.{eqb}
@@ -57,3 +58,25 @@ faulty BadLength = omega arith
 faulty NoLineFeed = omega arith
 faulty Repeated = omega arith
 faulty PastLast = omega arith
+
+-- ---- what is answered for no fault matters only where there is none
+step-none : (k line : ℕ) (next : Answer) {next′ other : Answer} → (next .number ≡ 0 → next′ ≡ other) → unlessFaulty k line next .number ≡ 0 → unlessFaulty k line next′ ≡ other
+step-none zero line next rest e = rest e
+step-none (suc k) line next rest e = absurd (omega arith)
+
+step-some : (k line : ℕ) {next next′ : Answer} → (next .number ≢ 0 → next′ ≡ next) → unlessFaulty k line next .number ≢ 0
+    → unlessFaulty k line next′ ≡ unlessFaulty k line next
+step-some zero line rest n = rest n
+step-some (suc k) line rest n = refl
+
+module _ (fine other : Answer) where
+  pub none-found : (before : List (List ℕ)) (ls : List Line) → firstFault before ls fine .number ≡ 0 → firstFault before ls other ≡ other
+  unfolding firstFault
+  none-found before [] e = refl
+  none-found before (l ∷ ls) e = step-none (lineNumber before (l .serial) (l .ended)) (suc (length before)) _ (none-found (before ++ (l .serial ∷ [])) ls) e
+
+  pub some-found : fine .number ≡ 0 → (before : List (List ℕ)) (ls : List Line) → firstFault before ls fine .number ≢ 0
+      → firstFault before ls other ≡ firstFault before ls fine
+  unfolding firstFault
+  some-found none before [] n = absurd (n none)
+  some-found none before (l ∷ ls) n = step-some (lineNumber before (l .serial) (l .ended)) (suc (length before)) (some-found none (before ++ (l .serial ∷ [])) ls) n

@@ -1,22 +1,34 @@
 -- A call that answers as its definition says, and leaves what it was lent or what it made, meets its contract.
 -- Assumes nothing.
-use mathlib.Core.Path.{_≡_, sym, ap, _∙_}
-use mathlib.Core.List.{List, [], _∷_}
-use Prim.Native.Nat.{ℕ}
+use mathlib.Core.Path.{_≡_, refl, sym, ap, _∙_}
+use mathlib.Core.Logic.{_≢_}
+use mathlib.Core.List.{List, [], _∷_, map}
+use Prim.Native.Nat.{ℕ, _≤_, _<_}
 use native.Mathlib.Omega.{arith}
-use lib.ListN.{length}
+use borrow.Author.Tests.{lt-ltb, le-ltb}
+use lib.Dec.{ltb}
+use lib.ListN.{length, getD}
+use Rattle.base.specs.Choice.{choose}
 use Rattle.base.specs.Refusal.{Answer}
 use Rattle.base.proofs.Refused.{left-alone, left-done}
 use Rattle.serials.specs.Serials.{serials}
 use Rattle.lines.specs.declared.Fault.{Fault}
 use Rattle.lines.specs.Faults.{numberOf}
-use Rattle.lines.proofs.Faults.{faulty}
-use Rattle.roster.specs.declared.Reading.the-variants.{Slots, Refused}
-use Rattle.roster.specs.Text.{lineEnds}
-use Rattle.roster.specs.Calls.{readAnswer, begunWith, ReadCall}
+use Rattle.lines.proofs.Faults.{faulty, none-found, some-found}
+use Rattle.roster.specs.declared.Reading.the-variants as reading
+use Rattle.roster.specs.declared.Written.{Written}
+use Rattle.roster.specs.declared.Written.the-variants as written
+use Rattle.roster.specs.Text.{rosterText, lineEnds}
+use Rattle.roster.specs.Calls.{writtenOf, readAnswer, asLine, judgeAnswer, writeAnswer, begunWith, ReadCall, WriteCall}
+
+abbrev pub allWritten : List (List ℕ) → Answer
+allWritten ss = record { number = 0; values = length (rosterText ss) ∷ [] }
+
+abbrev noRoom : Answer
+noRoom = record { number = 35; values = 0 ∷ [] }
 
 module _ {text before : List ℕ} where
-  pub read-left : (f : Fault) {line : ℕ} → readAnswer text ≡ record { number = numberOf f; values = line ∷ [] } → ReadCall text before (Refused f line) before
+  pub read-left : (f : Fault) {line : ℕ} → readAnswer text ≡ record { number = numberOf f; values = line ∷ [] } → ReadCall text before (reading.Refused f line) before
   read-left f e =
       record {
         answer = sym e;
@@ -24,5 +36,51 @@ module _ {text before : List ℕ} where
       }
 
   pub read-done : {slots : ℕ} {after : List ℕ} → readAnswer text ≡ record { number = 0; values = slots ∷ [] } → after ≡ begunWith (lineEnds text) before
-      → ReadCall text before (Slots slots) after
+      → ReadCall text before (reading.Slots slots) after
   read-done e is = record { answer = sym e; ends = is ∙ sym (left-done (readAnswer text .number) _ before (ap (λ (a : Answer). a .number) e)) }
+
+-- ---- the writer judges the serials first
+module _ (ss : List (List ℕ)) (room : ℕ) where
+  pub answer-refused : judgeAnswer ss .number ≢ 0 → writeAnswer ss room ≡ judgeAnswer ss
+  unfolding judgeAnswer writeAnswer
+  answer-refused n = some-found (allWritten ss) _ refl [] (map asLine ss) n
+
+  -- the serials passed
+  module _ (e : judgeAnswer ss .number ≡ 0) where
+    pub judged-length : judgeAnswer ss ≡ allWritten ss
+    unfolding judgeAnswer
+    judged-length = none-found (allWritten ss) _ [] (map asLine ss) e
+
+    pub answer-room : writeAnswer ss room ≡ choose (ltb room (length (rosterText ss))) noRoom (allWritten ss)
+    unfolding judgeAnswer writeAnswer
+    answer-room = none-found (allWritten ss) _ [] (map asLine ss) e
+
+module _ (chars ends before : List ℕ) where
+  write-left : {r : Written} → writtenOf r ≡ writeAnswer (serials chars ends) (length before) → writtenOf r .number ≢ 0 → WriteCall chars ends before r before
+  write-left {r} e n =
+      record {
+        answer = e;
+        output = sym (left-alone (writeAnswer (serials chars ends) (length before) .number) _ before (λ z. n (ap (λ (a : Answer). a .number) e ∙ z)));
+      }
+
+  pub write-refused : {r : Written} → writtenOf r ≡ judgeAnswer (serials chars ends) → writtenOf r .number ≢ 0 → WriteCall chars ends before r before
+  write-refused {r} e n =
+      write-left (e ∙ sym (answer-refused (serials chars ends) (length before) (λ z. n (ap (λ (a : Answer). a .number) e ∙ z)))) n
+
+  module _ {n : ℕ} (e : record { number = 0; values = n ∷ [] } ≡ judgeAnswer (serials chars ends)) where
+    accepted : judgeAnswer (serials chars ends) .number ≡ 0
+    accepted = sym (ap (λ (a : Answer). a .number) e)
+
+    pub text-length : n ≡ length (rosterText (serials chars ends))
+    text-length = ap (λ (a : Answer). getD (a .values) 0 0) (e ∙ judged-length (serials chars ends) (length before) accepted)
+
+    pub write-no-room : length before < n → WriteCall chars ends before written.NoRoom before
+    write-no-room h =
+        write-left (sym (answer-room (serials chars ends) (length before) accepted ∙ rw (lt-ltb (length before) (length (rosterText (serials chars ends))) (omega (arith, text-length))))) (λ z. omega arith)
+
+    pub write-done : n ≤ length before → {after : List ℕ} → after ≡ begunWith (rosterText (serials chars ends)) before → WriteCall chars ends before (written.Length n) after
+    write-done h is =
+        let answer : writeAnswer (serials chars ends) (length before) ≡ allWritten (serials chars ends) =
+        answer-room (serials chars ends) (length before) accepted ∙ rw (le-ltb (length before) (length (rosterText (serials chars ends))) (omega (arith, text-length)))
+        in
+        record { answer = ap (λ (k : ℕ). record { number = 0; values = k ∷ [] }) text-length ∙ sym answer; output = is ∙ sym (left-done (writeAnswer (serials chars ends) (length before) .number) _ before (ap (λ (a : Answer). a .number) answer)) }

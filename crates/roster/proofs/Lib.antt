@@ -2,3 +2,5 @@ pub mod First
 pub mod Text
 pub mod ReadTo
 pub mod Calls
+pub mod JudgedTo
+pub mod PutTo

@@ -58,7 +58,7 @@ module _ (text : List ℕ) (start end : ℕ) (h : start < length text) (is : end
       let bytes : i ≡ end - start = omega arith in
       let after : start + suc i ≡ suc end = omega arith in
       let ended : ltb i (length t) ≡ ltb end (length text) =
-          ⊎-elim (λ l. lt-ltb i (length t) (omega arith) ∙ sym (lt-ltb end (length text) l)) (λ l. le-ltb i (length t) (omega arith) ∙ sym (le-ltb end (length text) l)) (below-or-not end (length text))
+      ⊎-elim (λ l. lt-ltb i (length t) (omega arith) ∙ sym (lt-ltb end (length text) l)) (λ l. le-ltb i (length t) (omega arith) ∙ sym (le-ltb end (length text) l)) (below-or-not end (length text))
       in
       first-line t (omega arith)
       ∙ ap (λ (n : ℕ). record { serial = take n t; ended = ltb i (length t) } ∷ lines (drop (suc i) t)) bytes
@@ -118,7 +118,7 @@ unfolding lines firstFault endsFrom
 read-all {text} {ends} {found} {slots} {start} r h =
     let none : drop start text ≡ [] = drop-of-length-le text h in
     let all : lineEnds text ≡ take slots found =
-        r .stored ∙ ap (λ (t : List ℕ). take slots found ++ endsFrom start (lines t)) none ∙ append-nil (take slots found)
+    r .stored ∙ ap (λ (t : List ℕ). take slots found ++ endsFrom start (lines t)) none ∙ append-nil (take slots found)
     in
     let count : length (lineEnds text) ≡ slots = ap length all ∙ length-take-le slots found (omega arith) in (
       r .answer

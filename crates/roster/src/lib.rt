@@ -30,6 +30,7 @@ pub enum Written {
 pub fn read(text: &[u8], ends: &mut [usize; MOST]) -> Reading
     ensures { λ r. ⌜ ReadCall (now (text .entry)) (now (ends .entry)) r (now (ends .exit)) ⌝ }
 {
+    let _ends: &[usize] = ends;
     let mut found = *ends;
     let mut slots = 0;
     let mut start = 0;

@@ -21,7 +21,7 @@ abbrev μ-loop : tie.MeasureT-loop
 μ-loop text ends found₀ slots₀ start₀ found slots start = length text + 1 - start
 
 loop-holds : tie.Need-loop-holds Inv-loop μ-loop
-loop-holds c = (omega arith, read-none (c .before .before .args .text .now) (c .before .before .args .ends .now) (search needs))
+loop-holds c = (omega arith, read-none (c .before .before .before .before .args .text .now) (c .before .before .before .before .args .ends .now) (c .before .-ends2 .given .0))
 
 find-requires : tie.Need-find-requires Inv-loop μ-loop
 find-requires c κs = search needs
@@ -50,12 +50,12 @@ judge-requires c κs = search needs
 enum-known-judged : tie.Need-enum-known-judged Inv-loop μ-loop
 enum-known-judged c = search needs
 
-add-t18 : tie.Need-add-t18 Inv-loop μ-loop
-add-t18 c = let r = c .before .before .before .before .before .before .before .before .loop .inv .1 in omega arith
+add-t20 : tie.Need-add-t20 Inv-loop μ-loop
+add-t20 c = let r = c .before .before .before .before .before .before .before .before .loop .inv .1 in omega arith
 
 returns : tie.Need-returns Inv-loop μ-loop
 returns c =
-    let a = c .before .before .before .before .before .before .before .before .before .before .before .args in
+    let a = c .before .before .before .before .before .before .before .before .before .before .before .before .before .args in
     let l = c .before .before .before .before .before .before .before .before .loop in
     let f = c .before .before .before .before .before .before .find in
     let fault = c .before .judged .given .0 .0 in
@@ -67,7 +67,7 @@ enum-told c = search needs
 
 -- the line passed
 passed : (c : tie.After-enum-told Inv-loop μ-loop)
-    → let a = c .before .before .before .before .before .before .before .before .before .before .args in
+    → let a = c .before .before .before .before .before .before .before .before .before .before .before .before .args in
     let l = c .before .before .before .before .before .before .before .loop in
     let end = c .before .before .before .before .before .find .result in
     0 ≡ lineNumber (serials (a .text .now) (take (l .slots) (l .found))) (take (end - l .start) (drop (l .start) (a .text .now))) (ltb end (length (a .text .now)))
@@ -75,7 +75,7 @@ passed c = sym (ap judgedNumber (c .enum-told .given .1)) ∙ c .before .before 
 
 low : (c : tie.After-enum-told Inv-loop μ-loop) → c .before .before .before .before .before .before .before .loop .slots < 257
 low c =
-    let a = c .before .before .before .before .before .before .before .before .before .before .args in
+    let a = c .before .before .before .before .before .before .before .before .before .before .before .before .args in
     let l = c .before .before .before .before .before .before .before .loop in
     let f = c .before .before .before .before .before .find in
     read-room (a .text .now) (l .start) (f .result) (omega arith) (f .ensures .0) (l .inv .1) (f .ensures .1) (passed c)
@@ -97,7 +97,7 @@ loop-less c = omega (arith, c .before .before .before .before .before .find .ens
 
 loop-again : tie.Need-loop-again Inv-loop μ-loop
 loop-again c =
-    let a = c .before .before .before .before .before .before .before .before .before .before .args in
+    let a = c .before .before .before .before .before .before .before .before .before .before .before .before .args in
     let l = c .before .before .before .before .before .before .before .loop in
     let f = c .before .before .before .before .before .find in (
       omega (arith, f .ensures .1),
@@ -124,7 +124,7 @@ read-spec =
     part-judge-end
     judge-requires
     enum-known-judged
-    add-t18
+    add-t20
     returns
     enum-told
     mul-found
