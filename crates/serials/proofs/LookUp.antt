@@ -7,7 +7,7 @@ use mathlib.Core.List.{List, [], _∷_}
 use Prim.Native.Nat.{ℕ, zero, suc, _+_, _<_}
 use native.Mathlib.Nat.{not-suc-le-zero, le-of-suc-le-suc}
 use native.Mathlib.Omega.{arith}
-use borrow.Author.Tests.{eq-eqb, eqb-true}
+use borrow.Author.Tests.{eq-eqb, ne-eqb, eqb-true}
 use lib.Dec.{eqb}
 use lib.ListN.{length, getD, drop}
 use lib.Seq.{drop-cons}
@@ -40,15 +40,22 @@ other-alike s t n = go (alike s t) refl
     go true e = absurd (n (alike-same s t e))
     go false e = refl
 
--- ---- the search goes on from a slot whose serial is another, and ends with one that is asked for
-module _ (k : ℕ) (ss : List (List ℕ)) (slot : ℕ) (asked : List ℕ) (h : slot < length ss) where
-  pub search-on : getD ss slot [] ≢ asked → lookUpFrom k (drop slot ss) asked ≡ lookUpFrom (suc k) (drop (suc slot) ss) asked
-  unfolding lookUpFrom
-  search-on n = rw (drop-cons ss slot [] h, other-alike (getD ss slot []) asked n)
+-- ---- the comparison goes on while the bytes are the same, and the search while the serials differ
+module _ (s t : List ℕ) (i : ℕ) (hs : i < length s) (ht : i < length t) where
+  pub bytes-same : getD s i 0 ≡ getD t i 0 → alike (drop i s) (drop i t) ≡ alike (drop (suc i) s) (drop (suc i) t)
+  bytes-same e = rw (drop-cons s i 0 hs, drop-cons t i 0 ht, eq-eqb (getD s i 0) (getD t i 0) e)
 
-  pub search-ends : getD ss slot [] ≡ asked → lookUpFrom k (drop slot ss) asked ≡ Slot k
+  pub bytes-differ : getD s i 0 ≢ getD t i 0 → alike (drop i s) (drop i t) ≡ false
+  bytes-differ n = rw (drop-cons s i 0 hs, drop-cons t i 0 ht, ne-eqb (getD s i 0) (getD t i 0) n)
+
+module _ (k : ℕ) (ss : List (List ℕ)) (slot : ℕ) (asked : List ℕ) (h : slot < length ss) where
+  pub search-on : alike (getD ss slot []) asked ≡ false → lookUpFrom k (drop slot ss) asked ≡ lookUpFrom (suc k) (drop (suc slot) ss) asked
   unfolding lookUpFrom
-  search-ends e = rw (drop-cons ss slot [] h, same-alike e)
+  search-on e = rw (drop-cons ss slot [] h, e)
+
+  pub search-ends : alike (getD ss slot []) asked ≡ true → lookUpFrom k (drop slot ss) asked ≡ Slot k
+  unfolding lookUpFrom
+  search-ends e = rw (drop-cons ss slot [] h, e)
 
 -- ---- what is found
 pub record Lowest (ss : List (List ℕ)) (asked : List ℕ) (k : ℕ) : Type 0 where

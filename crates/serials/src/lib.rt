@@ -5,7 +5,7 @@ ghost use Prim.Native.Nat.{_-_, min};
 ghost use lib.ListN.{take, drop, getD};
 ghost use mathlib.Core.List.{[]};
 ghost use Rattle.serials.specs.Serials.{serials};
-ghost use Rattle.serials.specs.LookUp.{lookUp, isFound};
+ghost use Rattle.serials.specs.LookUp.{alike, lookUp, isFound};
 
 pub enum Found {
     Slot(usize),
@@ -27,12 +27,28 @@ pub fn find(chars: &[u8], ends: &[usize], asked: &[u8]) -> Found
 {
     let mut slot = 0;
     while slot < ends.len() {
-        if check::same(serial(chars, ends, slot), asked) {
+        if is_same(serial(chars, ends, slot), asked) {
             return Found::Slot(slot);
         }
         slot += 1;
     }
     Found::Nowhere
+}
+
+fn is_same(a: &[u8], b: &[u8]) -> bool
+    ensures { λ r. ⌜ r ≡ alike (now (a .entry)) (now (b .entry)) ⌝ }
+{
+    if a.len() != b.len() {
+        return false;
+    }
+    let mut i = 0;
+    while i < a.len() {
+        if a[i] != b[i] {
+            return false;
+        }
+        i += 1;
+    }
+    true
 }
 
 // The serial of a slot; past the last slot, none.

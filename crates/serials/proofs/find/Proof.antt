@@ -2,14 +2,14 @@
 -- the slots.
 -- Assumes nothing.
 use mathlib.Core.Path.{_≡_, refl, sym, ap, _∙_}
-use mathlib.Core.Bool.{true≢false}
+use mathlib.Core.List.{List, []}
 use Prim.Native.Nat.{ℕ, _+_, _-_, _≤_}
 use native.Mathlib.Omega.{arith}
 use borrow.Author.Needs.{needs}
 use native.Mathlib.Numerals.{add-one}
-use lib.ListN.{length, drop, drop-of-length-le}
+use lib.ListN.{length, getD, drop, drop-of-length-le}
 use Rattle.serials.specs.Serials.{serials}
-use Rattle.serials.specs.LookUp.{lookUp, lookUpFrom}
+use Rattle.serials.specs.LookUp.{alike, lookUp, lookUpFrom}
 use Rattle.serials.proofs.Laws.{length-serials}
 use Rattle.serials.proofs.LookUp.{search-on, search-ends}
 use Rattle.serials.proofs.find.Statement.{statement}
@@ -28,8 +28,16 @@ loop-holds c = (omega arith, refl)
 serial-requires : tie.Need-serial-requires Inv-loop μ-loop
 serial-requires c κs = search needs
 
-same-requires : tie.Need-same-requires Inv-loop μ-loop
-same-requires c κs = search needs
+is-same-requires : tie.Need-is-same-requires Inv-loop μ-loop
+is-same-requires c κs = search needs
+
+-- this slot's serial is compared
+compared : (c : tie.After-is-same Inv-loop μ-loop)
+    → let a = c .before .before .before .before .before .before .before .args in
+    alike (getD (serials (a .chars .now) (a .ends .now)) (c .before .before .before .loop .slot) []) (a .asked .now) ≡ c .is-same .result
+compared c =
+    let a = c .before .before .before .before .before .before .before .args in
+    sym (c .is-same .ensures ∙ ap (λ (s : List ℕ). alike s (a .asked .now)) (c .before .serial .ensures))
 
 returns : tie.Need-returns Inv-loop μ-loop
 returns c =
@@ -39,7 +47,7 @@ returns c =
     sym
     (l .inv .1
     ∙ search-ends (l .slot) ss (l .slot) (a .asked .now) (omega (arith, length-serials (a .chars .now) 0 (a .ends .now)))
-    (sym (c .before .before .serial .ensures) ∙ c .before .same .ensures .0 (c .if1 .taken)))
+    (compared (c .before) ∙ c .if1 .taken))
 
 add-slot : tie.Need-add-slot Inv-loop μ-loop
 add-slot c = omega arith
@@ -56,7 +64,7 @@ loop-again c =
       rw add-one
           (l .inv .1
           ∙ search-on (l .slot) ss (l .slot) (a .asked .now) (omega (arith, length-serials (a .chars .now) 0 (a .ends .now)))
-          (λ e. true≢false (sym (c .before .same .ensures .1 (c .before .before .serial .ensures ∙ e)) ∙ c .if1 .left))),
+          (compared (c .before) ∙ c .if1 .left)),
     )
 
 returns-2 : tie.Need-returns-2 Inv-loop μ-loop
@@ -75,7 +83,7 @@ find-spec =
     μ-loop
     loop-holds
     serial-requires
-    same-requires
+    is-same-requires
     returns
     add-slot
     loop-less
