@@ -16,9 +16,9 @@ use Rattle.base.proofs.Refused.{none-applies}
 use Rattle.lines.specs.declared.Fault.{Fault}
 use Rattle.lines.specs.declared.Fault.the-variants.{BadCharacter, BadLength, NoLineFeed, Repeated, PastLast}
 use Rattle.lines.specs.Lines.{Line}
-use Rattle.lines.specs.Faults.{numberOf, lineRefusals, lineNumber, unlessFaulty, firstFault}
+use Rattle.lines.specs.Faults.{numberOf, lineRefusals, lineNumber, refusedAt, unlessFaulty, firstFault}
 
-given : (f : Fault) (line : ℕ) (next : Answer) → unlessFaulty (numberOf f) line next ≡ record { number = numberOf f; values = line ∷ [] }
+given : (f : Fault) (line : ℕ) (next : Answer) → unlessFaulty (numberOf f) line next ≡ refusedAt (numberOf f) line
 given BadCharacter line next = refl
 given BadLength line next = refl
 given NoLineFeed line next = refl
@@ -29,7 +29,7 @@ module _ (before : List (List ℕ)) (serial : List ℕ) (ended : Bool) (ls : Lis
   abbrev searched : Answer
   searched = firstFault before (record { serial = serial; ended = ended } ∷ ls) fine
 
-  pub fault-here : (f : Fault) → numberOf f ≡ lineNumber before serial ended → searched ≡ record { number = numberOf f; values = suc (length before) ∷ [] }
+  pub fault-here : (f : Fault) → numberOf f ≡ lineNumber before serial ended → searched ≡ refusedAt (numberOf f) (suc (length before))
   unfolding firstFault
   fault-here f e = rw (← e) (given f (suc (length before)) _)
 

@@ -38,10 +38,13 @@ lineRefusals before l =
 unfoldable pub lineNumber : List (List ℕ) → List ℕ → Bool → ℕ
 lineNumber before serial ended = firstOf (lineRefusals before record { serial = serial; ended = ended })
 
--- a fault is answered with its number and its line, counted from 1; else what comes next is
+-- a refusal is answered with its line, counted from 1
+abbrev pub refusedAt : ℕ → ℕ → Answer
+refusedAt k line = record { number = k; values = line ∷ [] }
+
 abbrev pub unlessFaulty : ℕ → ℕ → Answer → Answer
 unlessFaulty zero line next = next
-unlessFaulty (suc k) line next = record { number = suc k; values = line ∷ [] }
+unlessFaulty (suc k) line next = refusedAt (suc k) line
 
 -- the first fault of some lines that stand after lines with these serials, or another answer where they have none
 unfoldable pub firstFault : List (List ℕ) → List Line → Answer → Answer

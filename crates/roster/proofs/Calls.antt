@@ -13,29 +13,23 @@ use Rattle.base.specs.Refusal.{Answer}
 use Rattle.base.proofs.Refused.{left-alone, left-done}
 use Rattle.serials.specs.Serials.{serials}
 use Rattle.lines.specs.declared.Fault.{Fault}
-use Rattle.lines.specs.Faults.{numberOf}
+use Rattle.lines.specs.Faults.{numberOf, refusedAt}
 use Rattle.lines.proofs.Faults.{faulty, none-found, some-found}
 use Rattle.roster.specs.declared.Reading.the-variants as reading
 use Rattle.roster.specs.declared.Written.{Written}
 use Rattle.roster.specs.declared.Written.the-variants as written
 use Rattle.roster.specs.Text.{rosterText, lineEnds}
-use Rattle.roster.specs.Calls.{writtenOf, readAnswer, asLine, judgeAnswer, writeAnswer, begunWith, ReadCall, WriteCall}
-
-abbrev pub allWritten : List (List ℕ) → Answer
-allWritten ss = record { number = 0; values = length (rosterText ss) ∷ [] }
-
-abbrev noRoom : Answer
-noRoom = record { number = 35; values = 0 ∷ [] }
+use Rattle.roster.specs.Calls.{done, writtenOf, readAnswer, asLine, roomAnswer, judgeAnswer, writeAnswer, begunWith, ReadCall, WriteCall}
 
 module _ {text before : List ℕ} where
-  pub read-left : (f : Fault) {line : ℕ} → readAnswer text ≡ record { number = numberOf f; values = line ∷ [] } → ReadCall text before (reading.Refused f line) before
+  pub read-left : (f : Fault) {line : ℕ} → readAnswer text ≡ refusedAt (numberOf f) line → ReadCall text before (reading.Refused f line) before
   read-left f e =
       record {
         answer = sym e;
         ends = sym (left-alone (readAnswer text .number) _ before (λ z. let some = faulty f in let same = ap (λ (a : Answer). a .number) e in omega arith));
       }
 
-  pub read-done : {slots : ℕ} {after : List ℕ} → readAnswer text ≡ record { number = 0; values = slots ∷ [] } → after ≡ begunWith (lineEnds text) before
+  pub read-done : {slots : ℕ} {after : List ℕ} → readAnswer text ≡ done slots → after ≡ begunWith (lineEnds text) before
       → ReadCall text before (reading.Slots slots) after
   read-done e is = record { answer = sym e; ends = is ∙ sym (left-done (readAnswer text .number) _ before (ap (λ (a : Answer). a .number) e)) }
 
@@ -43,17 +37,17 @@ module _ {text before : List ℕ} where
 module _ (ss : List (List ℕ)) (room : ℕ) where
   pub answer-refused : judgeAnswer ss .number ≢ 0 → writeAnswer ss room ≡ judgeAnswer ss
   unfolding judgeAnswer writeAnswer
-  answer-refused n = some-found (allWritten ss) _ refl [] (map asLine ss) n
+  answer-refused n = some-found (done (length (rosterText ss))) _ refl [] (map asLine ss) n
 
   -- the serials passed
   module _ (e : judgeAnswer ss .number ≡ 0) where
-    pub judged-length : judgeAnswer ss ≡ allWritten ss
+    pub judged-length : judgeAnswer ss ≡ done (length (rosterText ss))
     unfolding judgeAnswer
-    judged-length = none-found (allWritten ss) _ [] (map asLine ss) e
+    judged-length = none-found (done (length (rosterText ss))) _ [] (map asLine ss) e
 
-    pub answer-room : writeAnswer ss room ≡ choose (ltb room (length (rosterText ss))) noRoom (allWritten ss)
+    pub answer-room : writeAnswer ss room ≡ roomAnswer room (rosterText ss)
     unfolding judgeAnswer writeAnswer
-    answer-room = none-found (allWritten ss) _ [] (map asLine ss) e
+    answer-room = none-found (done (length (rosterText ss))) _ [] (map asLine ss) e
 
 module _ (chars ends before : List ℕ) where
   write-left : {r : Written} → writtenOf r ≡ writeAnswer (serials chars ends) (length before) → writtenOf r .number ≢ 0 → WriteCall chars ends before r before
@@ -67,7 +61,7 @@ module _ (chars ends before : List ℕ) where
   write-refused {r} e n =
       write-left (e ∙ sym (answer-refused (serials chars ends) (length before) (λ z. n (ap (λ (a : Answer). a .number) e ∙ z)))) n
 
-  module _ {n : ℕ} (e : record { number = 0; values = n ∷ [] } ≡ judgeAnswer (serials chars ends)) where
+  module _ {n : ℕ} (e : done n ≡ judgeAnswer (serials chars ends)) where
     accepted : judgeAnswer (serials chars ends) .number ≡ 0
     accepted = sym (ap (λ (a : Answer). a .number) e)
 
@@ -80,7 +74,7 @@ module _ (chars ends before : List ℕ) where
 
     pub write-done : n ≤ length before → {after : List ℕ} → after ≡ begunWith (rosterText (serials chars ends)) before → WriteCall chars ends before (written.Length n) after
     write-done h is =
-        let answer : writeAnswer (serials chars ends) (length before) ≡ allWritten (serials chars ends) =
+        let answer : writeAnswer (serials chars ends) (length before) ≡ done (length (rosterText (serials chars ends))) =
         answer-room (serials chars ends) (length before) accepted ∙ rw (le-ltb (length before) (length (rosterText (serials chars ends))) (omega (arith, text-length)))
         in
-        record { answer = ap (λ (k : ℕ). record { number = 0; values = k ∷ [] }) text-length ∙ sym answer; output = is ∙ sym (left-done (writeAnswer (serials chars ends) (length before) .number) _ before (ap (λ (a : Answer). a .number) answer)) }
+        record { answer = ap done text-length ∙ sym answer; output = is ∙ sym (left-done (writeAnswer (serials chars ends) (length before) .number) _ before (ap (λ (a : Answer). a .number) answer)) }

@@ -9,13 +9,16 @@ use native.Mathlib.Numerals.{add-one}
 use native.Mathlib.Omega.{arith}
 use lib.ListN.{length, getD, take, drop, drop-of-length-le}
 use lib.Seq.{take-all, take-suc, drop-cons, length-take-le}
+use Rattle.base.specs.Refusal.{Answer}
 use Rattle.lines.specs.declared.Fault.{Fault}
-use Rattle.lines.specs.Faults.{numberOf, lineNumber, firstFault}
+use Rattle.lines.specs.Faults.{numberOf, lineNumber, refusedAt, firstFault}
 use Rattle.lines.proofs.Faults.{fault-here, fault-later, fine-slot, fine-length}
 use Rattle.roster.specs.Text.{rosterText}
-use Rattle.roster.specs.Calls.{asLine, judgeAnswer}
+use Rattle.roster.specs.Calls.{done, asLine, judgeAnswer}
 use Rattle.roster.proofs.Text.{length-more}
-use Rattle.roster.proofs.Calls.{allWritten}
+
+abbrev allWritten : List (List ℕ) → Answer
+allWritten ss = done (length (rosterText ss))
 
 pub record JudgedTo (ss : List (List ℕ)) (slot count : ℕ) : Type 0 where
   pub most : slot ≤ 257
@@ -41,11 +44,11 @@ module _ (ss : List (List ℕ)) (slot count : ℕ) (r : JudgedTo ss slot count) 
   here : judgeAnswer ss ≡ firstFault (take slot ss) (asLine serial ∷ map asLine (drop (suc slot) ss)) (allWritten ss)
   here = r .answer ∙ ap (λ (ts : List (List ℕ)). firstFault (take slot ss) (map asLine ts) (allWritten ss)) (drop-cons ss slot [] h)
 
-  pub judged-refused : (f : Fault) → numberOf f ≡ number → judgeAnswer ss ≡ record { number = numberOf f; values = (slot + 1) ∷ [] }
+  pub judged-refused : (f : Fault) → numberOf f ≡ number → judgeAnswer ss ≡ refusedAt (numberOf f) (slot + 1)
   judged-refused f e =
       here
       ∙ fault-here (take slot ss) serial true (map asLine (drop (suc slot) ss)) (allWritten ss) f e
-      ∙ ap (λ (n : ℕ). record { number = numberOf f; values = n ∷ [] }) (omega (arith, before))
+      ∙ ap (λ (n : ℕ). refusedAt (numberOf f) n) (omega (arith, before))
 
   pub judged-fits : 0 ≡ number → (slot < 257) × (length serial ≤ 20)
   judged-fits e = (omega (arith, before, fine-slot (take slot ss) serial true e), fine-length (take slot ss) serial true e)
@@ -64,9 +67,9 @@ module _ (ss : List (List ℕ)) (slot count : ℕ) (r : JudgedTo ss slot count) 
             ∙ sym (rw (add-one, take-suc ss slot [] h));
       }
 
-pub judged-all : {ss : List (List ℕ)} {slot count : ℕ} → JudgedTo ss slot count → length ss ≤ slot → judgeAnswer ss ≡ record { number = 0; values = count ∷ [] }
+pub judged-all : {ss : List (List ℕ)} {slot count : ℕ} → JudgedTo ss slot count → length ss ≤ slot → judgeAnswer ss ≡ done count
 unfolding firstFault
 judged-all {ss} {slot} {count} r h =
     r .answer
     ∙ ap (λ (ts : List (List ℕ)). firstFault (take slot ss) (map asLine ts) (allWritten ss)) (drop-of-length-le ss h)
-    ∙ ap (λ (n : ℕ). record { number = 0; values = n ∷ [] }) (ap (λ (ts : List (List ℕ)). length (rosterText ts)) (sym (take-all slot ss h)) ∙ sym (r .long))
+    ∙ ap done (ap (λ (ts : List (List ℕ)). length (rosterText ts)) (sym (take-all slot ss h)) ∙ sym (r .long))

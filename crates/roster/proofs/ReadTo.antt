@@ -11,7 +11,7 @@ use native.Mathlib.Omega.{arith}
 use borrow.Author.Tests.{lt-ltb, le-ltb}
 use lib.Dec.{ltb}
 use lib.ListN.{length, take, drop, set, length-set, length-drop, take-append-drop, drop-of-length-le}
-use lib.Seq.{take-all, drop-drop, length-take-le, take-suc-set, drop-set-lt, append-snoc}
+use lib.Seq.{take-length, drop-drop, length-take-le, take-suc-set, drop-set-lt, append-snoc}
 use Rattle.bytes.specs.Bytes.{indexOf, slice}
 use Rattle.base.specs.Refusal.{Answer}
 use Rattle.base.proofs.Choice.{below-or-not}
@@ -20,15 +20,15 @@ use Rattle.serials.specs.Serials.{serialsFrom, serials}
 use Rattle.serials.proofs.Laws.{length-serials, serials-more}
 use Rattle.lines.specs.declared.Fault.{Fault}
 use Rattle.lines.specs.Lines.{Line, lineFeed, lines}
-use Rattle.lines.specs.Faults.{numberOf, lineNumber, firstFault}
+use Rattle.lines.specs.Faults.{numberOf, lineNumber, refusedAt, firstFault}
 use Rattle.lines.proofs.Faults.{fault-here, fault-later, fine-slot}
 use Rattle.roster.specs.Text.{endsFrom, lineEnds}
-use Rattle.roster.specs.Calls.{readAnswer, begunWith}
+use Rattle.roster.specs.Calls.{done, readAnswer, begunWith}
 use Rattle.roster.proofs.First.{first-line}
 use Rattle.roster.proofs.Text.{length-ends}
 
 abbrev allRead : List ℕ → Answer
-allRead text = record { number = 0; values = length (lines text) ∷ [] }
+allRead text = done (length (lines text))
 
 pub record ReadTo (text ends found : List ℕ) (slots start : ℕ) : Type 0 where
   pub most : slots ≤ 257
@@ -47,22 +47,29 @@ module _ (text : List ℕ) (start end : ℕ) (h : start < length text) (is : end
   abbrev serial : List ℕ
   serial = take (end - start) (drop start text)
 
-  line-here : lines (drop start text) ≡ record { serial = serial; ended = ltb end (length text) } ∷ lines (drop (suc end) text)
+  abbrev rest : List ℕ
+  rest = drop start text
+
+  at : end ≡ start + indexOf lineFeed rest
   unfolding slice
-  line-here =
-      let t = drop start text in
-      let i = indexOf lineFeed t in
-      let whole : drop start (take (length text) text) ≡ t = ap (drop start) (take-all (length text) text (omega arith)) in
-      let at : end ≡ start + i = is ∙ ap (λ (l : List ℕ). start + indexOf lineFeed l) whole in
+  at = is ∙ ap (λ (t : List ℕ). start + indexOf lineFeed (drop start t)) (take-length text)
+
+  ended-here : ltb (indexOf lineFeed rest) (length rest) ≡ ltb end (length text)
+  ended-here =
       let size = length-drop start text in
-      let bytes : i ≡ end - start = omega arith in
-      let after : start + suc i ≡ suc end = omega arith in
-      let ended : ltb i (length t) ≡ ltb end (length text) =
-      ⊎-elim (λ l. lt-ltb i (length t) (omega arith) ∙ sym (lt-ltb end (length text) l)) (λ l. le-ltb i (length t) (omega arith) ∙ sym (le-ltb end (length text) l)) (below-or-not end (length text))
-      in
-      first-line t (omega arith)
-      ∙ ap (λ (n : ℕ). record { serial = take n t; ended = ltb i (length t) } ∷ lines (drop (suc i) t)) bytes
-      ∙ ap₂ (λ (b : Bool) (l : List ℕ). record { serial = serial; ended = b } ∷ lines l) ended (drop-drop (suc i) start text ∙ ap (λ (n : ℕ). drop n text) after)
+      let place = at in
+      ⊎-elim (λ l. lt-ltb (indexOf lineFeed rest) (length rest) (omega arith) ∙ sym (lt-ltb end (length text) l))
+      (λ l. le-ltb (indexOf lineFeed rest) (length rest) (omega arith) ∙ sym (le-ltb end (length text) l)) (below-or-not end (length text))
+
+  after-here : drop (suc (indexOf lineFeed rest)) rest ≡ drop (suc end) text
+  after-here =
+      let place : start + suc (indexOf lineFeed rest) ≡ suc end = omega (arith, at) in
+      drop-drop (suc (indexOf lineFeed rest)) start text ∙ ap (λ (n : ℕ). drop n text) place
+
+  line-here : lines rest ≡ record { serial = serial; ended = ltb end (length text) } ∷ lines (drop (suc end) text)
+  line-here =
+      let bytes : indexOf lineFeed rest ≡ end - start = omega (arith, at) in
+      first-line rest (omega (arith, length-drop start text)) ∙ rw (ended-here, after-here, bytes)
 
   module _ {ends found : List ℕ} {slots : ℕ} (r : ReadTo text ends found slots start) (within : end ≤ length text) where
     abbrev number : ℕ
@@ -71,12 +78,12 @@ module _ (text : List ℕ) (start end : ℕ) (h : start < length text) (is : end
     count : length (serials text (take slots found)) ≡ slots
     count = length-serials text 0 (take slots found) ∙ length-take-le slots found (omega arith)
 
-    pub read-refused : (f : Fault) → numberOf f ≡ number → readAnswer text ≡ record { number = numberOf f; values = (slots + 1) ∷ [] }
+    pub read-refused : (f : Fault) → numberOf f ≡ number → readAnswer text ≡ refusedAt (numberOf f) (slots + 1)
     read-refused f e =
         r .answer
         ∙ ap (λ (ls : List Line). firstFault (serials text (take slots found)) ls (allRead text)) line-here
         ∙ fault-here (serials text (take slots found)) serial (ltb end (length text)) (lines (drop (suc end) text)) (allRead text) f e
-        ∙ ap (λ (n : ℕ). record { number = numberOf f; values = n ∷ [] }) (omega (arith, count))
+        ∙ ap (λ (n : ℕ). refusedAt (numberOf f) n) (omega (arith, count))
 
     pub read-room : 0 ≡ number → slots < 257
     read-room e = omega (arith, count, fine-slot (serials text (take slots found)) serial (ltb end (length text)) e)
@@ -113,7 +120,7 @@ module _ (text : List ℕ) (start end : ℕ) (h : start < length text) (is : end
         }
 
 pub read-all : {text ends found : List ℕ} {slots start : ℕ} → ReadTo text ends found slots start → length text ≤ start
-    → (readAnswer text ≡ record { number = 0; values = slots ∷ [] }) × (found ≡ begunWith (lineEnds text) ends)
+    → (readAnswer text ≡ done slots) × (found ≡ begunWith (lineEnds text) ends)
 unfolding lines firstFault endsFrom
 read-all {text} {ends} {found} {slots} {start} r h =
     let none : drop start text ≡ [] = drop-of-length-le text h in
@@ -123,6 +130,6 @@ read-all {text} {ends} {found} {slots} {start} r h =
     let count : length (lineEnds text) ≡ slots = ap length all ∙ length-take-le slots found (omega arith) in (
       r .answer
           ∙ ap (λ (t : List ℕ). firstFault (serials text (take slots found)) (lines t) (allRead text)) none
-          ∙ ap (λ (n : ℕ). record { number = 0; values = n ∷ [] }) (sym (length-ends 0 (lines text)) ∙ count),
+          ∙ ap done (sym (length-ends 0 (lines text)) ∙ count),
       sym (take-append-drop slots found) ∙ ap₂ _++_ (sym all) (r .rest ∙ ap (λ (n : ℕ). drop n ends) (sym count)),
     )

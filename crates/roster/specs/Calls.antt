@@ -9,38 +9,42 @@ use Rattle.base.specs.Choice.{choose}
 use Rattle.base.specs.Refusal.{Answer, unlessRefused}
 use Rattle.serials.specs.Serials.{serials}
 use Rattle.roster.specs.declared.Reading.{Reading}
-use Rattle.roster.specs.declared.Reading.the-variants as read
+use Rattle.roster.specs.declared.Reading.the-variants as reading
 use Rattle.roster.specs.declared.Written.{Written}
 use Rattle.roster.specs.declared.Written.the-variants as written
 use Rattle.lines.specs.Lines.{Line, lines}
-use Rattle.lines.specs.Faults.{numberOf, firstFault}
+use Rattle.lines.specs.Faults.{numberOf, refusedAt, firstFault}
 use Rattle.roster.specs.Text.{rosterText, lineEnds}
 
 -- The answers in the paper's numbers: with 0 comes the number of slots, or the text's length; with a refusal, its line.
+abbrev pub done : ℕ → Answer
+done n = record { number = 0; values = n ∷ [] }
+
 abbrev pub readOf : Reading → Answer
-readOf (read.Slots n) = record { number = 0; values = n ∷ [] }
-readOf (read.Refused f line) = record { number = numberOf f; values = line ∷ [] }
+readOf (reading.Slots n) = done n
+readOf (reading.Refused f line) = refusedAt (numberOf f) line
 
 abbrev pub writtenOf : Written → Answer
-writtenOf (written.Length n) = record { number = 0; values = n ∷ [] }
-writtenOf (written.Refused f line) = record { number = numberOf f; values = line ∷ [] }
-writtenOf written.NoRoom = record { number = 35; values = 0 ∷ [] }
+writtenOf (written.Length n) = done n
+writtenOf (written.Refused f line) = refusedAt (numberOf f) line
+writtenOf written.NoRoom = refusedAt 35 0
 
 -- ---- the reader
 unfoldable pub readAnswer : List ℕ → Answer
-readAnswer text = firstFault [] (lines text) record { number = 0; values = length (lines text) ∷ [] }
+readAnswer text = firstFault [] (lines text) (done (length (lines text)))
 
--- ---- the writer: its serials are judged as lines that are ended
+-- ---- the writer: its serials are judged as lines that are ended, and then the room for their text
 abbrev pub asLine : List ℕ → Line
 asLine s = record { serial = s; ended = true }
 
 unfoldable pub judgeAnswer : List (List ℕ) → Answer
-judgeAnswer ss = firstFault [] (map asLine ss) record { number = 0; values = length (rosterText ss) ∷ [] }
+judgeAnswer ss = firstFault [] (map asLine ss) (done (length (rosterText ss)))
+
+abbrev pub roomAnswer : ℕ → List ℕ → Answer
+roomAnswer room text = choose (ltb room (length text)) (refusedAt 35 0) (done (length text))
 
 unfoldable pub writeAnswer : List (List ℕ) → ℕ → Answer
-writeAnswer ss room =
-    firstFault [] (map asLine ss)
-    (choose (ltb room (length (rosterText ss))) record { number = 35; values = 0 ∷ [] } record { number = 0; values = length (rosterText ss) ∷ [] })
+writeAnswer ss room = firstFault [] (map asLine ss) (roomAnswer room (rosterText ss))
 
 -- new numbers at the start of a buffer
 abbrev pub begunWith : List ℕ → List ℕ → List ℕ

@@ -59,8 +59,8 @@ returns c =
     let l = c .before .before .before .before .before .before .before .before .loop in
     let f = c .before .before .before .before .before .before .find in
     let fault = c .before .judged .given .0 .0 in
-    let is = sym (ap judgedNumber (c .before .judged .given .1)) ∙ c .before .before .before .judge .ensures in
-    read-left fault (read-refused (a .text .now) (l .start) (f .result) (omega arith) (f .ensures .0) (l .inv .1) (f .ensures .1) fault is)
+    read-left fault (read-refused (a .text .now) (l .start) (f .result) (omega arith) (f .ensures .0) (l .inv .1) (f .ensures .1) fault
+    (sym (ap judgedNumber (c .before .judged .given .1)) ∙ c .before .before .before .judge .ensures))
 
 enum-told : tie.Need-enum-told Inv-loop μ-loop
 enum-told c = search needs

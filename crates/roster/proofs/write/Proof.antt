@@ -11,7 +11,7 @@ use Rattle.lines.proofs.Faults.{faulty}
 use Rattle.roster.proofs.Written.{enum}
 use Rattle.roster.specs.declared.Written.{Written}
 use Rattle.roster.specs.declared.Written.the-variants.{Length, Refused, NoRoom}
-use Rattle.roster.specs.Calls.{writtenOf, judgeAnswer}
+use Rattle.roster.specs.Calls.{done, writtenOf, judgeAnswer}
 use Rattle.roster.proofs.Calls.{write-refused, text-length, write-no-room, write-done}
 use Rattle.roster.proofs.write.Statement.{statement}
 use Rattle.roster.proofs.write.Tie as tie
@@ -36,7 +36,7 @@ returns c =
 -- a length is that of the serials' text
 told : (c : tie.After-known-told)
     → let a = c .before .before .before .before .before .before .before .args in
-    record { number = 0; values = c .before .judged .given .0 .0 ∷ [] } ≡ judgeAnswer (serials (a .chars .now) (a .ends .now))
+    done (c .before .judged .given .0 .0) ≡ judgeAnswer (serials (a .chars .now) (a .ends .now))
 told c = sym (ap writtenOf (c .before .judged .given .1)) ∙ c .before .before .before .judge-all .ensures
 
 returns-2 : tie.Need-returns-2
