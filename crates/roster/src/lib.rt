@@ -60,7 +60,7 @@ pub fn write(chars: &[u8], ends: &[usize], out: &mut [u8]) -> Written
         return Written::NoRoom;
     }
     put_all(chars, ends, out);
-    Written::Length(length)
+    judged
 }
 
 // The first fault of serials to be written, or the length of their text.

@@ -14,6 +14,10 @@ alike [] (b ∷ t) = false
 alike (a ∷ s) [] = false
 alike (a ∷ s) (b ∷ t) = both (eqb a b) (alike s t)
 
+abbrev pub isFound : Found → Bool
+isFound (Slot k) = true
+isFound Nowhere = false
+
 -- where the first serial is that of slot k
 unfoldable pub lookUpFrom : ℕ → List (List ℕ) → List ℕ → Found
 lookUpFrom k [] asked = Nowhere
@@ -21,7 +25,3 @@ lookUpFrom k (s ∷ ss) asked = choose (alike s asked) (Slot k) (lookUpFrom (suc
 
 abbrev pub lookUp : List (List ℕ) → List ℕ → Found
 lookUp ss asked = lookUpFrom 0 ss asked
-
-abbrev pub isFound : Found → Bool
-isFound (Slot k) = true
-isFound Nowhere = false
