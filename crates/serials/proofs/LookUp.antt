@@ -1,21 +1,23 @@
 -- A serial that is found is the asked one, byte for byte, in the lowest slot that has it; where none is found, no slot has it.
 -- Assumes nothing.
 use mathlib.Core.Path.{_≡_, refl, sym, ap, ap₂, _∙_}
-use mathlib.Core.Logic.{_≢_}
+use mathlib.Core.Logic.{_≢_, ⊎-elim}
 use mathlib.Core.Bool.{Bool, true, false, true≢false, false≢true}
 use mathlib.Core.List.{List, [], _∷_}
-use Prim.Native.Nat.{ℕ, zero, suc, _+_, _<_}
-use native.Mathlib.Nat.{not-suc-le-zero, le-of-suc-le-suc}
+use Prim.Native.Nat.{ℕ, zero, suc, _<_, suc-le-suc}
+use native.Mathlib.Nat.{not-suc-le-zero, le-of-suc-le-suc, zero-lt-suc}
 use native.Mathlib.Omega.{arith}
 use borrow.Author.Tests.{eq-eqb, ne-eqb, eqb-true}
 use lib.Dec.{eqb}
 use lib.ListN.{length, getD, drop}
 use lib.Seq.{drop-cons}
 use Rattle.base.specs.Choice.{choose, both}
-use Rattle.base.proofs.Choice.{both-true}
+use Rattle.base.proofs.Choice.{both-true, below-or-not}
 use Rattle.serials.specs.declared.Found.{Found}
 use Rattle.serials.specs.declared.Found.the-variants.{Slot, Nowhere}
+use Rattle.serials.specs.Serials.{serials}
 use Rattle.serials.specs.LookUp.{alike, lookUpFrom, lookUp, isFound}
+use Rattle.serials.specs.Lowest.{Lowest, Tells}
 
 -- ---- two serials
 pub alike-same : (s t : List ℕ) → alike s t ≡ true → s ≡ t
@@ -58,11 +60,60 @@ module _ (k : ℕ) (ss : List (List ℕ)) (slot : ℕ) (asked : List ℕ) (h : s
   search-ends e = rw (drop-cons ss slot [] h, e)
 
 -- ---- what is found
-pub record Lowest (ss : List (List ℕ)) (asked : List ℕ) (k : ℕ) : Type 0 where
-  pub slot : k < length ss
-  pub same : getD ss k [] ≡ asked
-  pub before : (j : ℕ) → j < k → getD ss j [] ≢ asked
+abbrev later : Found → Found
+later (Slot k) = Slot (suc k)
+later Nowhere = Nowhere
 
-abbrev pub Tells : List (List ℕ) → List ℕ → Found → Type 0
-Tells ss asked (Slot k) = Lowest ss asked k
-Tells ss asked Nowhere = (j : ℕ) → j < length ss → getD ss j [] ≢ asked
+later-choose : (b : Bool) (f g : Found) → choose b (later f) (later g) ≡ later (choose b f g)
+later-choose true f g = refl
+later-choose false f g = refl
+
+shifted : (k : ℕ) (ss : List (List ℕ)) (asked : List ℕ) → lookUpFrom (suc k) ss asked ≡ later (lookUpFrom k ss asked)
+unfolding lookUpFrom
+shifted k [] asked = refl
+shifted k (s ∷ ss) asked = rw (shifted (suc k) ss asked) (later-choose (alike s asked) (Slot k) (lookUpFrom (suc k) ss asked))
+
+-- a slot more in front
+module _ (s : List ℕ) (ss : List (List ℕ)) (asked : List ℕ) where
+  none-before : s ≢ asked → (k : ℕ) → ((j : ℕ) → j < k → getD ss j [] ≢ asked) → (j : ℕ) → j < suc k → getD (s ∷ ss) j [] ≢ asked
+  none-before n k ns zero h = n
+  none-before n k ns (suc j) h = ns j (le-of-suc-le-suc h)
+
+  tells-later : s ≢ asked → (f : Found) → Tells ss asked f → Tells (s ∷ ss) asked (later f)
+  tells-later n (Slot k) t = record { there = suc-le-suc (t .there); same = t .same; before = none-before n k (t .before) }
+  tells-later n Nowhere t = none-before n (length ss) t
+
+pub look-up-tells : (ss : List (List ℕ)) (asked : List ℕ) → Tells ss asked (lookUp ss asked)
+unfolding lookUpFrom
+look-up-tells [] asked = λ j h. absurd (not-suc-le-zero h)
+look-up-tells (s ∷ ss) asked = rw (shifted 0 ss asked) (go (alike s asked) refl (look-up-tells ss asked))
+  where
+    go : (b : Bool) → alike s asked ≡ b → Tells ss asked (lookUp ss asked) → Tells (s ∷ ss) asked (choose b (Slot 0) (later (lookUp ss asked)))
+    go true e t = record { there = zero-lt-suc (length ss); same = alike-same s asked e; before = λ j h. absurd (not-suc-le-zero h) }
+    go false e t = tells-later s ss asked (λ same. true≢false (sym (same-alike same) ∙ e)) (lookUp ss asked) t
+
+-- the same of a call of `find`
+pub find-tells : (chars ends asked : List ℕ) (r : Found) → r ≡ lookUp (serials chars ends) asked → Tells (serials chars ends) asked r
+find-tells chars ends asked r e = rw e (look-up-tells (serials chars ends) asked)
+
+-- ---- what stands lowest is found, and what no slot has is not
+module _ (ss : List (List ℕ)) (asked : List ℕ) where
+  pub lowest-found : (k : ℕ) → Lowest ss asked k → lookUp ss asked ≡ Slot k
+  lowest-found k low = go (lookUp ss asked) (look-up-tells ss asked)
+    where
+      go : (f : Found) → Tells ss asked f → f ≡ Slot k
+      go (Slot j) t =
+          ⊎-elim (λ h. absurd (low .before j h (t .same)))
+          (λ h. ⊎-elim (λ l. absurd (t .before k l (low .same))) (λ l. ap Slot (omega arith)) (below-or-not k j)) (below-or-not j k)
+      go Nowhere t = absurd (t k (low .there) (low .same))
+
+  pub held-nowhere : ((j : ℕ) → j < length ss → getD ss j [] ≢ asked) → lookUp ss asked ≡ Nowhere
+  held-nowhere none = go (lookUp ss asked) (look-up-tells ss asked)
+    where
+      go : (f : Found) → Tells ss asked f → f ≡ Nowhere
+      go (Slot j) t = absurd (none j (t .there) (t .same))
+      go Nowhere t = refl
+
+  -- a serial is found only among those of its length
+  pub other-length : ((j : ℕ) → j < length ss → length (getD ss j []) ≢ length asked) → lookUp ss asked ≡ Nowhere
+  other-length none = held-nowhere (λ j h e. none j h (ap length e))
