@@ -4,3 +4,4 @@ pub mod ReadTo
 pub mod Calls
 pub mod JudgedTo
 pub mod PutTo
+pub mod Roster

@@ -1,7 +1,7 @@
 -- A serial that is found is the asked one, byte for byte, in the lowest slot that has it; where none is found, no slot has it.
 -- Assumes nothing.
 use mathlib.Core.Path.{_≡_, refl, sym, ap, ap₂, _∙_}
-use mathlib.Core.Logic.{_≢_, ⊎-elim}
+use mathlib.Core.Logic.{_≢_}
 use mathlib.Core.Bool.{Bool, true, false, true≢false, false≢true}
 use mathlib.Core.List.{List, [], _∷_}
 use Prim.Native.Nat.{ℕ, zero, suc, _<_, suc-le-suc}
@@ -12,7 +12,7 @@ use lib.Dec.{eqb}
 use lib.ListN.{length, getD, drop}
 use lib.Seq.{drop-cons}
 use Rattle.base.specs.Choice.{choose, both}
-use Rattle.base.proofs.Choice.{both-true, below-or-not}
+use Rattle.base.proofs.Choice.{both-true}
 use Rattle.serials.specs.declared.Found.{Found}
 use Rattle.serials.specs.declared.Found.the-variants.{Slot, Nowhere}
 use Rattle.serials.specs.Serials.{serials}
@@ -103,8 +103,9 @@ module _ (ss : List (List ℕ)) (asked : List ℕ) where
     where
       go : (f : Found) → Tells ss asked f → f ≡ Slot k
       go (Slot j) t =
-          ⊎-elim (λ h. absurd (low .before j h (t .same)))
-          (λ h. ⊎-elim (λ l. absurd (t .before k l (low .same))) (λ l. ap Slot (omega arith)) (below-or-not k j)) (below-or-not j k)
+          let low-j : ¬ (j < k) = λ h. low .before j h (t .same) in
+          let low-k : ¬ (k < j) = λ h. t .before k h (low .same) in
+          ap Slot (omega arith)
       go Nowhere t = absurd (t k (low .there) (low .same))
 
   pub held-nowhere : ((j : ℕ) → j < length ss → getD ss j [] ≢ asked) → lookUp ss asked ≡ Nowhere
@@ -117,3 +118,10 @@ module _ (ss : List (List ℕ)) (asked : List ℕ) where
   -- a serial is found only among those of its length
   pub other-length : ((j : ℕ) → j < length ss → length (getD ss j []) ≢ length asked) → lookUp ss asked ≡ Nowhere
   other-length none = held-nowhere (λ j h e. none j h (ap length e))
+
+  pub not-found : isFound (lookUp ss asked) ≡ false → (j : ℕ) → j < length ss → getD ss j [] ≢ asked
+  not-found e = go (lookUp ss asked) e (look-up-tells ss asked)
+    where
+      go : (f : Found) → isFound f ≡ false → Tells ss asked f → (j : ℕ) → j < length ss → getD ss j [] ≢ asked
+      go (Slot k) e t = absurd (true≢false e)
+      go Nowhere e t = t
