@@ -5,3 +5,4 @@ pub mod Calls
 pub mod JudgedTo
 pub mod PutTo
 pub mod Roster
+pub mod Texts
