@@ -36,7 +36,7 @@ module _ (ls : List Line) (fine : Answer) where
   -- what it gives: the other answer, or a fault
   abbrev Outcome : Answer → Type 0
   Outcome a =
-      (Faultless ls × (a ≡ fine)) ⊎ ((k : ℕ) × (number : ℕ) × FirstFault ls k number × (a ≡ record { number = number; values = suc k ∷ [] }))
+      (Faultless ls × (a ≡ fine)) ⊎ ((line : ℕ) × (number : ℕ) × FirstFault ls line number × (a ≡ record { number = number; values = line ∷ [] }))
 
   outcome : (left k : ℕ) → k + left ≡ length ls → ((j : ℕ) → j < k → firstOf (testsOf ls j) ≡ 0) → Outcome (from k)
   unfolding firstFault
@@ -48,9 +48,9 @@ module _ (ls : List Line) (fine : Answer) where
     where
       go : k < length ls → (n : ℕ) → firstOf (testsOf ls k) ≡ n → (firstOf (testsOf ls k) ≡ 0 → Outcome (from (suc k))) → Outcome (unlessFaulty n (suc k) (from (suc k)))
       go here zero none rest = rest none
-      go here (suc n) is rest = inr (k, suc n, record { there = here; passed = passed; fails = is; given = omega arith }, refl)
+      go here (suc n) is rest = inr (suc k, suc n, record { slot = k; counted = refl; there = here; passed = passed; fails = is; given = omega arith }, refl)
 
-  search-outcome : Outcome (firstFault [] ls fine)
+  pub search-outcome : Outcome (firstFault [] ls fine)
   search-outcome = outcome (length ls) 0 (omega arith) (λ j h. absurd (not-suc-le-zero h))
 
   pub fine-faultless : firstFault [] ls fine .number ≡ 0 → Faultless ls × (firstFault [] ls fine ≡ fine)
@@ -59,13 +59,12 @@ module _ (ls : List Line) (fine : Answer) where
 
   pub faultless-fine : Faultless ls → firstFault [] ls fine ≡ fine
   faultless-fine passed =
-      ⊎-elim (λ p. p .1) (λ p. absurd (omega (arith, p .2 .given, p .2 .fails, passed (p .0) (p .2 .there)))) search-outcome
+      ⊎-elim (λ p. p .1) (λ p. absurd (omega (arith, p .2 .given, p .2 .fails, passed (p .2 .slot) (p .2 .there)))) search-outcome
 
-  pub first-fault : {number line : ℕ} → record { number = number; values = line ∷ [] } ≡ firstFault [] ls fine → number ≢ fine .number
-      → (k : ℕ) × (line ≡ suc k) × FirstFault ls k number
+  pub first-fault : {number line : ℕ} → record { number = number; values = line ∷ [] } ≡ firstFault [] ls fine → number ≢ fine .number → FirstFault ls line number
   first-fault e n =
       ⊎-elim (λ p. absurd (n (ap (λ (a : Answer). a .number) (e ∙ p .1))))
       (λ p.
       let same = e ∙ p .3 in
-      (p .0, ap (λ (a : Answer). getD (a .values) 0 0) same, rw (ap (λ (a : Answer). a .number) same) (p .2)))
+      rw (ap (λ (a : Answer). a .number) same, ap (λ (a : Answer). getD (a .values) 0 0) same) (p .2))
       search-outcome

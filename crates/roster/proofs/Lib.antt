@@ -6,3 +6,6 @@ pub mod JudgedTo
 pub mod PutTo
 pub mod Roster
 pub mod Texts
+pub mod Apart
+pub mod Tells
+pub mod Round

@@ -1,0 +1,140 @@
+-- What an answer tells. Done, the call has a roster, with the ends of its lines or the text of its serials; refused, it names the first fault, and the buffer is
+-- as it was.
+-- Assumes nothing.
+use mathlib.Core.Path.{_≡_, refl, sym, ap, _∙_, subst}
+use mathlib.Core.Logic.{_≢_, ⊎-elim}
+use mathlib.Core.Bool.{Bool, true, false}
+use mathlib.Core.List.{List, [], _∷_, _++_, map}
+use Prim.Native.Nat.{ℕ, suc, _≤_, _<_}
+use native.Mathlib.Omega.{arith}
+use borrow.Author.Tests.{ltb-true, not-false}
+use lib.Dec.{ltb}
+use lib.ListN.{length, getD, take, drop}
+use lib.Seq.{take-at}
+use Rattle.base.specs.Choice.{choose}
+use Rattle.base.specs.Refusal.{Answer, unlessRefused}
+use Rattle.base.proofs.Refused.{left-alone, left-done}
+use Rattle.serials.specs.Serials.{serials}
+use Rattle.serials.proofs.Laws.{length-serials}
+use Rattle.lines.specs.declared.Fault.{Fault}
+use Rattle.lines.specs.Lines.{Line, lines}
+use Rattle.lines.specs.Faults.{numberOf, firstFault}
+use Rattle.lines.specs.FirstFault.{serialsOf, noLine, Faultless, FirstFault}
+use Rattle.lines.proofs.FirstFault.{search-outcome, fine-faultless, first-fault}
+use Rattle.roster.specs.declared.Reading.{Reading}
+use Rattle.roster.specs.declared.Reading.the-variants.{Slots}
+use Rattle.roster.specs.declared.Reading.the-variants as read
+use Rattle.roster.specs.declared.Written.{Written}
+use Rattle.roster.specs.declared.Written.the-variants.{Length, NoRoom}
+use Rattle.roster.specs.declared.Written.the-variants as written
+use Rattle.roster.specs.Text.{rosterText, lineEnds}
+use Rattle.roster.specs.Calls.{readOf, writtenOf, readAnswer, writeAnswer, asLine, begunWith, ReadCall, WriteCall}
+use Rattle.roster.specs.Roster.{Roster}
+use Rattle.roster.proofs.Roster.{is-roster, count-of}
+use Rattle.roster.proofs.Texts.{serials-of-lines, count-ends, serials-as-lines}
+use Rattle.roster.proofs.Apart.{not-zero, not-35}
+
+abbrev number : Answer → ℕ
+number a = a .number
+
+abbrev value : Answer → ℕ
+value a = getD (a .values) 0 0
+
+-- ---- the reader's answers
+module _ (text : List ℕ) where
+  pub slots-tell : {n : ℕ} → readOf (Slots n) ≡ readAnswer text → Faultless (lines text) × (n ≡ length (lines text))
+  unfolding readAnswer
+  slots-tell e =
+      let p = fine-faultless (lines text) (readOf (Slots (length (lines text)))) (sym (ap number e)) in
+      (p .0, ap value (e ∙ p .1))
+
+  pub reading-refused-tells : (f : Fault) {line : ℕ} → readOf (read.Refused f line) ≡ readAnswer text → FirstFault (lines text) line (numberOf f)
+  unfolding readAnswer
+  reading-refused-tells f e = first-fault (lines text) (readOf (Slots (length (lines text)))) e (not-zero f)
+
+-- ---- the writer's answers
+module _ (ss : List (List ℕ)) (room : ℕ) where
+  -- where no line is faulty
+  abbrev byRoom : Bool → Answer
+  byRoom short = choose short (writtenOf NoRoom) (writtenOf (Length (length (rosterText ss))))
+
+  has-room : {n : ℕ} (short : Bool) → writtenOf (Length n) ≡ byRoom short → n ≡ length (rosterText ss)
+  has-room true e = absurd (omega (arith, ap number e))
+  has-room false e = ap value e
+
+  lacks-room : (short : Bool) → writtenOf NoRoom ≡ byRoom short → short ≡ true
+  lacks-room true e = refl
+  lacks-room false e = absurd (omega (arith, ap number e))
+
+  no-fault : (f : Fault) (short : Bool) → numberOf f ≢ byRoom short .number
+  no-fault f true = not-35 f
+  no-fault f false = not-zero f
+
+  abbrev short : Bool
+  short = ltb room (length (rosterText ss))
+
+  pub length-tells : {n : ℕ} → writtenOf (Length n) ≡ writeAnswer ss room → Faultless (map asLine ss) × (n ≡ length (rosterText ss))
+  unfolding writeAnswer
+  length-tells e =
+      let p = fine-faultless (map asLine ss) (byRoom short) (sym (ap number e)) in
+      (p .0, has-room short (e ∙ p .1))
+
+  pub writing-refused-tells : (f : Fault) {line : ℕ} → writtenOf (written.Refused f line) ≡ writeAnswer ss room → FirstFault (map asLine ss) line (numberOf f)
+  unfolding writeAnswer
+  writing-refused-tells f e = first-fault (map asLine ss) (byRoom short) e (no-fault f short)
+
+  pub no-room-tells : writtenOf NoRoom ≡ writeAnswer ss room → Faultless (map asLine ss) × (room < length (rosterText ss))
+  unfolding writeAnswer
+  no-room-tells e =
+      ⊎-elim (λ p. (p .0, ltb-true room (length (rosterText ss)) (lacks-room short (e ∙ p .1)))) (λ p. absurd (omega (arith, p .2 .counted, ap value (e ∙ p .3))))
+      (search-outcome (map asLine ss) (byRoom short))
+
+-- ---- the calls: a buffer that begins with new numbers, or is as it was
+module _ (new before : List ℕ) {after : List ℕ} {k : ℕ} (is : after ≡ unlessRefused k (begunWith new before) before) where
+  begun-taken : {n : ℕ} → 0 ≡ k → n ≡ length new → take n after ≡ new
+  begun-taken {n} e long = ap (take n) (is ∙ left-done k (begunWith new before) before (sym e)) ∙ take-at new (drop (length new) before) n (sym long)
+
+  untouched : {j : ℕ} → j ≢ 0 → j ≡ k → after ≡ before
+  untouched ne e = is ∙ left-alone k (begunWith new before) before (λ z. ne (e ∙ z))
+
+module _ {text before after : List ℕ} {n : ℕ} (call : ReadCall text before (Slots n) after) where
+  pub read-faultless : Faultless (lines text)
+  read-faultless = slots-tell text (call .answer) .0
+
+  pub read-slots : n ≡ length (lines text)
+  read-slots = slots-tell text (call .answer) .1
+
+  pub read-serials : serials text (take n after) ≡ serialsOf (lines text)
+  read-serials =
+      ap (serials text) (begun-taken (lineEnds text) before (call .ends) (ap number (call .answer)) (read-slots ∙ sym (count-ends text))) ∙ serials-of-lines text
+
+  pub read-roster : Roster (serials text (take n after)) × (length (serials text (take n after)) ≡ n)
+  read-roster = rw read-serials (is-roster (lines text) read-faultless, count-of (lines text) ∙ sym read-slots)
+
+module _ {text before after : List ℕ} {f : Fault} {line : ℕ} (call : ReadCall text before (read.Refused f line) after) where
+  pub read-refused : FirstFault (lines text) line (numberOf f) × (after ≡ before)
+  read-refused =
+      (reading-refused-tells text f (call .answer), untouched (lineEnds text) before (call .ends) (not-zero f) (ap number (call .answer)))
+
+module _ {chars ends before after : List ℕ} where
+  pub written-text : {n : ℕ} → WriteCall chars ends before (Length n) after → take n after ≡ rosterText (serials chars ends)
+  written-text call =
+      begun-taken (rosterText (serials chars ends)) before (call .output) (ap number (call .answer)) (length-tells (serials chars ends) (length before) (call .answer) .1)
+
+  pub written-faultless : {n : ℕ} → WriteCall chars ends before (Length n) after → Faultless (map asLine (serials chars ends))
+  written-faultless call = length-tells (serials chars ends) (length before) (call .answer) .0
+
+  pub written-roster : {n : ℕ} → WriteCall chars ends before (Length n) after → Roster (serials chars ends)
+  written-roster call = subst Roster (serials-as-lines (serials chars ends)) (is-roster (map asLine (serials chars ends)) (written-faultless call))
+
+  pub write-refused : {f : Fault} {line : ℕ} → WriteCall chars ends before (written.Refused f line) after
+      → FirstFault (map asLine (serials chars ends)) line (numberOf f) × (after ≡ before)
+  write-refused {f} call = (
+    writing-refused-tells (serials chars ends) (length before) f (call .answer),
+    untouched (rosterText (serials chars ends)) before (call .output) (not-zero f) (ap number (call .answer)),
+  )
+
+  pub no-room : WriteCall chars ends before NoRoom after → Faultless (map asLine (serials chars ends)) × (length before < length (rosterText (serials chars ends))) × (after ≡ before)
+  no-room call =
+      let p = no-room-tells (serials chars ends) (length before) (call .answer) in
+      (p .0, p .1, untouched (rosterText (serials chars ends)) before (call .output) (λ e. omega arith) (ap number (call .answer)))
