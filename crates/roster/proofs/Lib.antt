@@ -9,3 +9,4 @@ pub mod Texts
 pub mod Apart
 pub mod Tells
 pub mod Round
+pub mod Examples
