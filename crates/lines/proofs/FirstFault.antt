@@ -1,17 +1,21 @@
 -- The search for a fault gives the earliest line that fails a test, with the first test that it fails; where it gives another answer, no line fails one.
 -- By induction over the lines that are left.
 -- Assumes nothing.
-use mathlib.Core.Path.{_≡_, refl, sym, ap, _∙_}
+use mathlib.Core.Path.{_≡_, refl, sym, ap, subst, _∙_}
+use mathlib.Core.Bool.{Bool, true, false, true≢false}
 use mathlib.Core.Logic.{_⊎_, inl, inr, ⊎-elim, _≢_}
-use mathlib.Core.List.{List, [], _∷_, _++_, map-append}
-use Prim.Native.Nat.{ℕ, zero, suc, _+_, _<_}
-use native.Mathlib.Nat.{not-suc-le-zero}
-use native.Mathlib.Numerals.{add-one}
+use mathlib.Core.List.{List, [], _∷_, map-append}
+use Prim.Native.Nat.{ℕ, zero, suc, _+_, _≤_, _<_}
+use native.Mathlib.Nat.{not-suc-le-zero, le-refl}
 use native.Mathlib.Omega.{arith}
 use borrow.Author.Count.{below-more}
+use borrow.Author.Tests.{ltb-true}
+use lib.Dec.{ltb}
 use lib.ListN.{length, getD, take, drop, length-map, drop-of-length-le}
 use lib.Seq.{take-suc, drop-cons, length-take-le}
-use Rattle.base.specs.Refusal.{firstOf, Answer}
+use Rattle.base.specs.Choice.{choose, both}
+use Rattle.base.specs.Refusal.{Refusal, firstOf, Answer}
+use Rattle.base.proofs.Choice.{both-true}
 use Rattle.lines.specs.Lines.{Line}
 use Rattle.lines.specs.Faults.{lineNumber, unlessFaulty, firstFault}
 use Rattle.lines.specs.FirstFault.{serialsOf, noLine, testsOf, Faultless, FirstFault}
@@ -68,3 +72,33 @@ module _ (ls : List Line) (fine : Answer) where
       let same = e ∙ p .3 in
       rw (ap (λ (a : Answer). a .number) same, ap (λ (a : Answer). getD (a .values) 0 0) same) (p .2))
       search-outcome
+
+-- ---- within a line the lowest number, since the tests' numbers rise
+abbrev rising : ℕ → List Refusal → Bool
+rising n [] = true
+rising n (r ∷ rs) = both (ltb n (r .number)) (rising (r .number) rs)
+
+-- no test that applies has a lower number
+abbrev pub NoneLower : ℕ → List Refusal → Type 0
+NoneLower n [] = Unit {0}
+NoneLower n (r ∷ rs) = (r .applies ≡ true → n ≤ r .number) × NoneLower n rs
+
+none-lower : (n m : ℕ) (rs : List Refusal) → n ≤ m → rising m rs ≡ true → NoneLower n rs
+none-lower n m [] h e = tt
+none-lower n m (r ∷ rs) h e =
+    let parts = both-true (ltb m (r .number)) (rising (r .number) rs) e in
+    let more = ltb-true m (r .number) (parts .0) in
+    ((λ applies. omega arith), none-lower n (r .number) rs (omega arith) (parts .1))
+
+first-lowest : (n : ℕ) (rs : List Refusal) → rising n rs ≡ true → NoneLower (firstOf rs) rs
+first-lowest n [] e = tt
+first-lowest n (r ∷ rs) e =
+    let later = both-true (ltb n (r .number)) (rising (r .number) rs) e .1 in
+    go (r .applies) refl (none-lower (r .number) (r .number) rs (le-refl (r .number)) later) (first-lowest (r .number) rs later)
+  where
+    go : (b : Bool) → r .applies ≡ b → NoneLower (r .number) rs → NoneLower (firstOf rs) rs → NoneLower (choose b (r .number) (firstOf rs)) (r ∷ rs)
+    go true is here later = ((λ applies. le-refl (r .number)), here)
+    go false is here later = ((λ applies. absurd (true≢false (sym applies ∙ is))), later)
+
+pub lowest-number : {ls : List Line} {line number : ℕ} (f : FirstFault ls line number) → NoneLower number (testsOf ls (f .slot))
+lowest-number {ls} f = subst (λ (n : ℕ). NoneLower n (testsOf ls (f .slot))) (f .fails) (first-lowest 0 (testsOf ls (f .slot)) refl)

@@ -4,34 +4,33 @@
 use mathlib.Core.Path.{_≡_, refl, sym, ap, _∙_, subst}
 use mathlib.Core.Logic.{_≢_, ⊎-elim}
 use mathlib.Core.Bool.{Bool, true, false}
-use mathlib.Core.List.{List, [], _∷_, _++_, map}
-use Prim.Native.Nat.{ℕ, suc, _≤_, _<_}
+use mathlib.Core.List.{List, [], map}
+use Prim.Native.Nat.{ℕ, _<_}
 use native.Mathlib.Omega.{arith}
-use borrow.Author.Tests.{ltb-true, not-false}
+use borrow.Author.Tests.{ltb-true}
 use lib.Dec.{ltb}
 use lib.ListN.{length, getD, take, drop}
 use lib.Seq.{take-at}
 use Rattle.base.specs.Choice.{choose}
 use Rattle.base.specs.Refusal.{Answer, unlessRefused}
 use Rattle.base.proofs.Refused.{left-alone, left-done}
+use Rattle.serials.specs.declared.Found.the-variants.{Slot, Nowhere}
 use Rattle.serials.specs.Serials.{serials}
-use Rattle.serials.proofs.Laws.{length-serials}
+use Rattle.serials.specs.LookUp.{lookUp}
 use Rattle.lines.specs.declared.Fault.{Fault}
-use Rattle.lines.specs.Lines.{Line, lines}
-use Rattle.lines.specs.Faults.{numberOf, firstFault}
-use Rattle.lines.specs.FirstFault.{serialsOf, noLine, Faultless, FirstFault}
+use Rattle.lines.specs.Lines.{lines}
+use Rattle.lines.specs.Faults.{numberOf}
+use Rattle.lines.specs.FirstFault.{serialsOf, Faultless, FirstFault}
 use Rattle.lines.proofs.FirstFault.{search-outcome, fine-faultless, first-fault}
-use Rattle.roster.specs.declared.Reading.{Reading}
 use Rattle.roster.specs.declared.Reading.the-variants.{Slots}
 use Rattle.roster.specs.declared.Reading.the-variants as read
-use Rattle.roster.specs.declared.Written.{Written}
 use Rattle.roster.specs.declared.Written.the-variants.{Length, NoRoom}
 use Rattle.roster.specs.declared.Written.the-variants as written
 use Rattle.roster.specs.Text.{rosterText, lineEnds}
 use Rattle.roster.specs.Calls.{readOf, writtenOf, readAnswer, writeAnswer, asLine, begunWith, ReadCall, WriteCall}
 use Rattle.roster.specs.Roster.{Roster}
-use Rattle.roster.proofs.Roster.{is-roster, count-of}
-use Rattle.roster.proofs.Texts.{serials-of-lines, count-ends, serials-as-lines}
+use Rattle.roster.proofs.Roster.{count-of, serials-as-lines, is-roster, each-found, long-nowhere}
+use Rattle.roster.proofs.Texts.{serials-of-lines, count-ends}
 use Rattle.roster.proofs.Apart.{not-zero, not-35}
 
 abbrev number : Answer → ℕ
@@ -70,23 +69,26 @@ module _ (ss : List (List ℕ)) (room : ℕ) where
   no-fault f true = not-35 f
   no-fault f false = not-zero f
 
+  faultless-roster : Faultless (map asLine ss) → Roster ss
+  faultless-roster faultless = subst Roster (serials-as-lines ss) (is-roster (map asLine ss) faultless)
+
   abbrev short : Bool
   short = ltb room (length (rosterText ss))
 
-  pub length-tells : {n : ℕ} → writtenOf (Length n) ≡ writeAnswer ss room → Faultless (map asLine ss) × (n ≡ length (rosterText ss))
+  pub length-tells : {n : ℕ} → writtenOf (Length n) ≡ writeAnswer ss room → Roster ss × (n ≡ length (rosterText ss))
   unfolding writeAnswer
   length-tells e =
       let p = fine-faultless (map asLine ss) (byRoom short) (sym (ap number e)) in
-      (p .0, has-room short (e ∙ p .1))
+      (faultless-roster (p .0), has-room short (e ∙ p .1))
 
   pub writing-refused-tells : (f : Fault) {line : ℕ} → writtenOf (written.Refused f line) ≡ writeAnswer ss room → FirstFault (map asLine ss) line (numberOf f)
   unfolding writeAnswer
   writing-refused-tells f e = first-fault (map asLine ss) (byRoom short) e (no-fault f short)
 
-  pub no-room-tells : writtenOf NoRoom ≡ writeAnswer ss room → Faultless (map asLine ss) × (room < length (rosterText ss))
+  pub no-room-tells : writtenOf NoRoom ≡ writeAnswer ss room → Roster ss × (room < length (rosterText ss))
   unfolding writeAnswer
   no-room-tells e =
-      ⊎-elim (λ p. (p .0, ltb-true room (length (rosterText ss)) (lacks-room short (e ∙ p .1)))) (λ p. absurd (omega (arith, p .2 .counted, ap value (e ∙ p .3))))
+      ⊎-elim (λ p. (faultless-roster (p .0), ltb-true room (length (rosterText ss)) (lacks-room short (e ∙ p .1)))) (λ p. absurd (omega (arith, p .2 .counted, ap value (e ∙ p .3))))
       (search-outcome (map asLine ss) (byRoom short))
 
 -- ---- the calls: a buffer that begins with new numbers, or is as it was
@@ -111,6 +113,12 @@ module _ {text before after : List ℕ} {n : ℕ} (call : ReadCall text before (
   pub read-roster : Roster (serials text (take n after)) × (length (serials text (take n after)) ≡ n)
   read-roster = rw read-serials (is-roster (lines text) read-faultless, count-of (lines text) ∙ sym read-slots)
 
+  pub read-found : (k : ℕ) → k < n → lookUp (serials text (take n after)) (getD (serials text (take n after)) k []) ≡ Slot k
+  read-found k h = each-found (read-roster .0) k (omega (arith, read-roster .1))
+
+  pub read-long-nowhere : (asked : List ℕ) → 20 < length asked → lookUp (serials text (take n after)) asked ≡ Nowhere
+  read-long-nowhere asked l = long-nowhere (read-roster .0) asked l
+
 module _ {text before after : List ℕ} {f : Fault} {line : ℕ} (call : ReadCall text before (read.Refused f line) after) where
   pub read-refused : FirstFault (lines text) line (numberOf f) × (after ≡ before)
   read-refused =
@@ -121,11 +129,8 @@ module _ {chars ends before after : List ℕ} where
   written-text call =
       begun-taken (rosterText (serials chars ends)) before (call .output) (ap number (call .answer)) (length-tells (serials chars ends) (length before) (call .answer) .1)
 
-  pub written-faultless : {n : ℕ} → WriteCall chars ends before (Length n) after → Faultless (map asLine (serials chars ends))
-  written-faultless call = length-tells (serials chars ends) (length before) (call .answer) .0
-
   pub written-roster : {n : ℕ} → WriteCall chars ends before (Length n) after → Roster (serials chars ends)
-  written-roster call = subst Roster (serials-as-lines (serials chars ends)) (is-roster (map asLine (serials chars ends)) (written-faultless call))
+  written-roster call = length-tells (serials chars ends) (length before) (call .answer) .0
 
   pub write-refused : {f : Fault} {line : ℕ} → WriteCall chars ends before (written.Refused f line) after
       → FirstFault (map asLine (serials chars ends)) line (numberOf f) × (after ≡ before)
@@ -134,7 +139,7 @@ module _ {chars ends before after : List ℕ} where
     untouched (rosterText (serials chars ends)) before (call .output) (not-zero f) (ap number (call .answer)),
   )
 
-  pub no-room : WriteCall chars ends before NoRoom after → Faultless (map asLine (serials chars ends)) × (length before < length (rosterText (serials chars ends))) × (after ≡ before)
+  pub no-room : WriteCall chars ends before NoRoom after → Roster (serials chars ends) × (length before < length (rosterText (serials chars ends))) × (after ≡ before)
   no-room call =
       let p = no-room-tells (serials chars ends) (length before) (call .answer) in
       (p .0, p .1, untouched (rosterText (serials chars ends)) before (call .output) (λ e. omega arith) (ap number (call .answer)))

@@ -4,12 +4,11 @@
 use mathlib.Core.Path.{_≡_, refl, sym, ap, ap₂, _∙_}
 use mathlib.Core.Bool.{Bool, true, false, false≢true}
 use mathlib.Core.List.{List, [], _∷_, _++_, map}
-use Prim.Native.Nat.{ℕ, zero, suc, _+_, _-_, _<_, suc-le-suc}
+use Prim.Native.Nat.{ℕ, suc, _+_, _<_, suc-le-suc}
 use native.Mathlib.Nat.{zero-lt-suc, zero-add, suc-add, suc-sub-suc, sub-zero}
-use native.Mathlib.Omega.{arith}
 use borrow.Author.Tests.{eqb-true, ne-eqb}
 use lib.Dec.{eqb}
-use lib.ListN.{length, getD, take, drop}
+use lib.ListN.{length, getD}
 use Rattle.base.specs.Choice.{choose}
 use Rattle.serials.specs.Serials.{serials, serialsFrom}
 use Rattle.serials.proofs.Laws.{length-serials}
@@ -65,10 +64,6 @@ lines-of-text (s ∷ ss) good =
     first-line s (rosterText ss) (good 0 (zero-lt-suc (length ss)) .characters)
     ∙ ap (_∷_ (asLine s)) (lines-of-text ss (λ k h. good (suc k) (suc-le-suc h)))
 
-pub serials-as-lines : (ss : List (List ℕ)) → serialsOf (map asLine ss) ≡ ss
-serials-as-lines [] = refl
-serials-as-lines (s ∷ ss) = ap (_∷_ s) (serials-as-lines ss)
-
 -- ---- a text whose lines are all ended
 abbrev pub Ended : List Line → Type 0
 Ended [] = Unit {0}
@@ -77,10 +72,6 @@ Ended (l ∷ ls) = (l .ended ≡ true) × Ended ls
 pub all-ended : (ls : List Line) → ((k : ℕ) → k < length ls → getD ls k noLine .ended ≡ true) → Ended ls
 all-ended [] es = tt
 all-ended (l ∷ ls) es = (es 0 (zero-lt-suc (length ls)), all-ended ls (λ k h. es (suc k) (suc-le-suc h)))
-
-pub ended-as-lines : (ls : List Line) → Ended ls → map asLine (serialsOf ls) ≡ ls
-ended-as-lines [] ended = refl
-ended-as-lines (l ∷ ls) ended = rw (sym (ended .0), ended-as-lines ls (ended .1))
 
 begun-text : (c : ℕ) (ls : List Line) → Ended (begun c ls) → Ended ls × (rosterText (serialsOf (begun c ls)) ≡ c ∷ rosterText (serialsOf ls))
 unfolding rosterText

@@ -11,7 +11,7 @@ use borrow.Author.Tests.{eq-eqb, ne-eqb, eqb-true}
 use lib.Dec.{eqb}
 use lib.ListN.{length, getD, drop}
 use lib.Seq.{drop-cons}
-use Rattle.base.specs.Choice.{choose, both}
+use Rattle.base.specs.Choice.{choose}
 use Rattle.base.proofs.Choice.{both-true}
 use Rattle.serials.specs.declared.Found.{Found}
 use Rattle.serials.specs.declared.Found.the-variants.{Slot, Nowhere}
