@@ -46,13 +46,15 @@ module _ (ls : List Line) (fine : Answer) where
   unfolding firstFault
   outcome zero k e passed = inl ((λ j h. passed j (omega arith)), rw (drop-of-length-le ls {i = k} (omega arith)))
   outcome (suc left) k e passed =
-      let here : k < length ls = omega arith in
-      rw (turn k here)
-      (go here (firstOf (testsOf ls k)) refl (λ none. outcome left (suc k) (omega arith) (λ j h. below-more (λ j. firstOf (testsOf ls j) ≡ 0) k passed none j (omega arith))))
+      rw (turn k (omega arith))
+      (go (firstOf (testsOf ls k)) refl
+      (λ none. outcome left (suc k) (omega arith) (λ j h. below-more (λ j. firstOf (testsOf ls j) ≡ 0) k passed none j (omega arith))))
     where
-      go : k < length ls → (n : ℕ) → firstOf (testsOf ls k) ≡ n → (firstOf (testsOf ls k) ≡ 0 → Outcome (from (suc k))) → Outcome (unlessFaulty n (suc k) (from (suc k)))
-      go here zero none rest = rest none
-      go here (suc n) is rest = inr (suc k, suc n, record { slot = k; counted = refl; there = here; passed = passed; fails = is; given = omega arith }, refl)
+      go : (n : ℕ) → firstOf (testsOf ls k) ≡ n → (firstOf (testsOf ls k) ≡ 0 → Outcome (from (suc k)))
+          → Outcome (unlessFaulty n (suc k) (from (suc k)))
+      go zero none rest = rest none
+      go (suc n) is rest =
+          inr (suc k, suc n, record { slot = k; counted = refl; there = omega arith; passed = passed; fails = is; given = omega arith }, refl)
 
   pub search-outcome : Outcome (firstFault [] ls fine)
   search-outcome = outcome (length ls) 0 (omega arith) (λ j h. absurd (not-suc-le-zero h))
@@ -65,7 +67,8 @@ module _ (ls : List Line) (fine : Answer) where
   faultless-fine passed =
       ⊎-elim (λ p. p .1) (λ p. absurd (omega (arith, p .2 .given, p .2 .fails, passed (p .2 .slot) (p .2 .there)))) search-outcome
 
-  pub first-fault : {number line : ℕ} → record { number = number; values = line ∷ [] } ≡ firstFault [] ls fine → number ≢ fine .number → FirstFault ls line number
+  pub first-fault : {number line : ℕ} → record { number = number; values = line ∷ [] } ≡ firstFault [] ls fine → number ≢ fine .number
+      → FirstFault ls line number
   first-fault e n =
       ⊎-elim (λ p. absurd (n (ap (λ (a : Answer). a .number) (e ∙ p .1))))
       (λ p.

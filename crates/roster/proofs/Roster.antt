@@ -1,5 +1,5 @@
--- Lines that pass their tests have the serials of a roster: each of its properties is what one of the tests says. And a roster's serials, as ended lines, pass them.
--- In a roster, each slot is found by its serial, and no serial of more than 20 bytes is found.
+-- Lines that pass their tests have the serials of a roster: each of its properties is what one of the tests says. And a roster's serials, as ended
+-- lines, pass them. In a roster, each slot is found by its serial, and no serial of more than 20 bytes is found.
 -- Assumes nothing.
 use mathlib.Core.Path.{_≡_, refl, sym, ap, _∙_}
 use mathlib.Core.Logic.{_≢_, ⊎-elim}

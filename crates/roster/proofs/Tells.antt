@@ -1,5 +1,5 @@
--- What an answer tells. Done, the call has a roster, with the ends of its lines or the text of its serials; refused, it names the first fault, and the buffer is
--- as it was.
+-- What an answer tells. Done, there is a roster, and its ends or its text stand at the start of the buffer; refused, there is the first fault, or no room, and
+-- the buffer is as it was.
 -- Assumes nothing.
 use mathlib.Core.Path.{_≡_, refl, sym, ap, _∙_, subst}
 use mathlib.Core.Logic.{_≢_, ⊎-elim}
@@ -10,7 +10,7 @@ use native.Mathlib.Omega.{arith}
 use borrow.Author.Tests.{ltb-true}
 use lib.Dec.{ltb}
 use lib.ListN.{length, getD, take, drop}
-use lib.Seq.{take-at}
+use lib.Seq.{take-at, drop-at}
 use Rattle.base.specs.Choice.{choose}
 use Rattle.base.specs.Refusal.{Answer, unlessRefused}
 use Rattle.base.proofs.Refused.{left-alone, left-done}
@@ -81,20 +81,28 @@ module _ (ss : List (List ℕ)) (room : ℕ) where
       let p = fine-faultless (map asLine ss) (byRoom short) (sym (ap number e)) in
       (faultless-roster (p .0), has-room short (e ∙ p .1))
 
-  pub writing-refused-tells : (f : Fault) {line : ℕ} → writtenOf (written.Refused f line) ≡ writeAnswer ss room → FirstFault (map asLine ss) line (numberOf f)
+  pub writing-refused-tells : (f : Fault) {line : ℕ} → writtenOf (written.Refused f line) ≡ writeAnswer ss room
+      → FirstFault (map asLine ss) line (numberOf f)
   unfolding writeAnswer
   writing-refused-tells f e = first-fault (map asLine ss) (byRoom short) e (no-fault f short)
 
   pub no-room-tells : writtenOf NoRoom ≡ writeAnswer ss room → Roster ss × (room < length (rosterText ss))
   unfolding writeAnswer
   no-room-tells e =
-      ⊎-elim (λ p. (faultless-roster (p .0), ltb-true room (length (rosterText ss)) (lacks-room short (e ∙ p .1)))) (λ p. absurd (omega (arith, p .2 .counted, ap value (e ∙ p .3))))
+      ⊎-elim (λ p. (faultless-roster (p .0), ltb-true room (length (rosterText ss)) (lacks-room short (e ∙ p .1))))
+      (λ p. absurd (omega (arith, p .2 .counted, ap value (e ∙ p .3))))
       (search-outcome (map asLine ss) (byRoom short))
 
 -- ---- the calls: a buffer that begins with new numbers, or is as it was
 module _ (new before : List ℕ) {after : List ℕ} {k : ℕ} (is : after ≡ unlessRefused k (begunWith new before) before) where
+  begun : 0 ≡ k → after ≡ begunWith new before
+  begun e = is ∙ left-done k (begunWith new before) before (sym e)
+
   begun-taken : {n : ℕ} → 0 ≡ k → n ≡ length new → take n after ≡ new
-  begun-taken {n} e long = ap (take n) (is ∙ left-done k (begunWith new before) before (sym e)) ∙ take-at new (drop (length new) before) n (sym long)
+  begun-taken {n} e long = ap (take n) (begun e) ∙ take-at new (drop (length new) before) n (sym long)
+
+  begun-rest : {n : ℕ} → 0 ≡ k → n ≡ length new → drop n after ≡ drop n before
+  begun-rest {n} e long = ap (drop n) (begun e) ∙ drop-at new (drop (length new) before) n (sym long) ∙ rw long
 
   untouched : {j : ℕ} → j ≢ 0 → j ≡ k → after ≡ before
   untouched ne e = is ∙ left-alone k (begunWith new before) before (λ z. ne (e ∙ z))
@@ -106,9 +114,14 @@ module _ {text before after : List ℕ} {n : ℕ} (call : ReadCall text before (
   pub read-slots : n ≡ length (lines text)
   read-slots = slots-tell text (call .answer) .1
 
+  as-many : n ≡ length (lineEnds text)
+  as-many = read-slots ∙ sym (count-ends text)
+
   pub read-serials : serials text (take n after) ≡ serialsOf (lines text)
-  read-serials =
-      ap (serials text) (begun-taken (lineEnds text) before (call .ends) (ap number (call .answer)) (read-slots ∙ sym (count-ends text))) ∙ serials-of-lines text
+  read-serials = ap (serials text) (begun-taken (lineEnds text) before (call .ends) (ap number (call .answer)) as-many) ∙ serials-of-lines text
+
+  pub read-rest : drop n after ≡ drop n before
+  read-rest = begun-rest (lineEnds text) before (call .ends) (ap number (call .answer)) as-many
 
   pub read-roster : Roster (serials text (take n after)) × (length (serials text (take n after)) ≡ n)
   read-roster = rw read-serials (is-roster (lines text) read-faultless, count-of (lines text) ∙ sym read-slots)
@@ -124,14 +137,20 @@ module _ {text before after : List ℕ} {f : Fault} {line : ℕ} (call : ReadCal
   read-refused =
       (reading-refused-tells text f (call .answer), untouched (lineEnds text) before (call .ends) (not-zero f) (ap number (call .answer)))
 
+module _ {chars ends before after : List ℕ} {n : ℕ} (call : WriteCall chars ends before (Length n) after) where
+  pub written-roster : Roster (serials chars ends)
+  written-roster = length-tells (serials chars ends) (length before) (call .answer) .0
+
+  pub written-length : n ≡ length (rosterText (serials chars ends))
+  written-length = length-tells (serials chars ends) (length before) (call .answer) .1
+
+  pub written-text : take n after ≡ rosterText (serials chars ends)
+  written-text = begun-taken (rosterText (serials chars ends)) before (call .output) (ap number (call .answer)) written-length
+
+  pub written-rest : drop n after ≡ drop n before
+  written-rest = begun-rest (rosterText (serials chars ends)) before (call .output) (ap number (call .answer)) written-length
+
 module _ {chars ends before after : List ℕ} where
-  pub written-text : {n : ℕ} → WriteCall chars ends before (Length n) after → take n after ≡ rosterText (serials chars ends)
-  written-text call =
-      begun-taken (rosterText (serials chars ends)) before (call .output) (ap number (call .answer)) (length-tells (serials chars ends) (length before) (call .answer) .1)
-
-  pub written-roster : {n : ℕ} → WriteCall chars ends before (Length n) after → Roster (serials chars ends)
-  written-roster call = length-tells (serials chars ends) (length before) (call .answer) .0
-
   pub write-refused : {f : Fault} {line : ℕ} → WriteCall chars ends before (written.Refused f line) after
       → FirstFault (map asLine (serials chars ends)) line (numberOf f) × (after ≡ before)
   write-refused {f} call = (
@@ -139,7 +158,8 @@ module _ {chars ends before after : List ℕ} where
     untouched (rosterText (serials chars ends)) before (call .output) (not-zero f) (ap number (call .answer)),
   )
 
-  pub no-room : WriteCall chars ends before NoRoom after → Roster (serials chars ends) × (length before < length (rosterText (serials chars ends))) × (after ≡ before)
+  pub no-room : WriteCall chars ends before NoRoom after
+      → Roster (serials chars ends) × (length before < length (rosterText (serials chars ends))) × (after ≡ before)
   no-room call =
       let p = no-room-tells (serials chars ends) (length before) (call .answer) in
       (p .0, p .1, untouched (rosterText (serials chars ends)) before (call .output) (λ e. omega arith) (ap number (call .answer)))

@@ -25,13 +25,15 @@ front b c ls = choose b (asLine [] ∷ ls) (begun c ls)
 
 -- ---- the ends of a text's lines
 -- one byte more in front of the text
-behind : (c : ℕ) (t : List ℕ) (start : ℕ) (ls : List Line) → serialsFrom (suc start) (c ∷ t) (endsFrom (suc start) ls) ≡ serialsFrom start t (endsFrom start ls)
+behind : (c : ℕ) (t : List ℕ) (start : ℕ) (ls : List Line)
+    → serialsFrom (suc start) (c ∷ t) (endsFrom (suc start) ls) ≡ serialsFrom start t (endsFrom start ls)
 unfolding serialsFrom endsFrom
 behind c t start [] = refl
 behind c t start (l ∷ ls) =
     rw (suc-add start (length (l .serial)), suc-sub-suc (start + length (l .serial)) start, behind c t (suc (start + length (l .serial))) ls)
 
-begun-serials : (c : ℕ) (t : List ℕ) (ls : List Line) → serials t (endsFrom 0 ls) ≡ serialsOf ls → serials (c ∷ t) (endsFrom 0 (begun c ls)) ≡ serialsOf (begun c ls)
+begun-serials : (c : ℕ) (t : List ℕ) (ls : List Line) → serials t (endsFrom 0 ls) ≡ serialsOf ls
+    → serials (c ∷ t) (endsFrom 0 (begun c ls)) ≡ serialsOf (begun c ls)
 unfolding serialsFrom endsFrom
 begun-serials c t [] e = refl
 begun-serials c t (l ∷ ls) e = simp (zero-add, sub-zero, behind c t (suc (length (l .serial))) ls) (cc (simp (zero-add, sub-zero) at e))
