@@ -51,30 +51,21 @@ module _ (before : List (List ℕ)) (serial : List ℕ) (ended : Bool) (e : 0 �
       let passed = none-applies (lineRefusals before record { serial = serial; ended = ended }) refl (sym e) in
       ltb-false 257 (suc (length before)) (passed .1 .1 .1 .1 .0)
 
--- a fault has a number
-pub faulty : (f : Fault) → 0 < numberOf f
-faulty BadCharacter = omega arith
-faulty BadLength = omega arith
-faulty NoLineFeed = omega arith
-faulty Repeated = omega arith
-faulty PastLast = omega arith
+-- no fault has the number 0
+pub not-zero : (f : Fault) → numberOf f ≢ 0
+not-zero BadCharacter e = omega arith
+not-zero BadLength e = omega arith
+not-zero NoLineFeed e = omega arith
+not-zero Repeated e = omega arith
+not-zero PastLast e = omega arith
 
--- ---- what is answered for no fault matters only where there is none
-step-none : (k line : ℕ) (next : Answer) {next′ other : Answer} → (next .number ≡ 0 → next′ ≡ other) → unlessFaulty k line next .number ≡ 0 → unlessFaulty k line next′ ≡ other
-step-none zero line next rest e = rest e
-step-none (suc k) line next rest e = absurd (omega arith)
-
+-- ---- where there is a fault, what is answered for none does not matter
 step-some : (k line : ℕ) {next next′ : Answer} → (next .number ≢ 0 → next′ ≡ next) → unlessFaulty k line next .number ≢ 0
     → unlessFaulty k line next′ ≡ unlessFaulty k line next
 step-some zero line rest n = rest n
 step-some (suc k) line rest n = refl
 
 module _ (fine other : Answer) where
-  pub none-found : (before : List (List ℕ)) (ls : List Line) → firstFault before ls fine .number ≡ 0 → firstFault before ls other ≡ other
-  unfolding firstFault
-  none-found before [] e = refl
-  none-found before (l ∷ ls) e = step-none (lineNumber before (l .serial) (l .ended)) (suc (length before)) _ (none-found (before ++ (l .serial ∷ [])) ls) e
-
   pub some-found : fine .number ≡ 0 → (before : List (List ℕ)) (ls : List Line) → firstFault before ls fine .number ≢ 0
       → firstFault before ls other ≡ firstFault before ls fine
   unfolding firstFault

@@ -28,9 +28,6 @@ fault-back NoLineFeed = (refl, refl, refl)
 fault-back Repeated = (refl, refl, refl)
 fault-back PastLast = (refl, refl, refl)
 
-pub not-zero : (f : Fault) → numberOf f ≢ 0
-not-zero f = eqb-false (numberOf f) 0 (fault-back f .0)
-
 pub not-35 : (f : Fault) → numberOf f ≢ 35
 not-35 f = eqb-false (numberOf f) 35 (fault-back f .1)
 

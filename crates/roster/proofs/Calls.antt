@@ -14,7 +14,8 @@ use Rattle.base.proofs.Refused.{left-alone, left-done}
 use Rattle.serials.specs.Serials.{serials}
 use Rattle.lines.specs.declared.Fault.{Fault}
 use Rattle.lines.specs.Faults.{numberOf, refusedAt}
-use Rattle.lines.proofs.Faults.{faulty, none-found, some-found}
+use Rattle.lines.proofs.Faults.{not-zero, some-found}
+use Rattle.lines.proofs.FirstFault.{fine-faultless, faultless-fine}
 use Rattle.roster.specs.declared.Reading.the-variants as reading
 use Rattle.roster.specs.declared.Written.{Written}
 use Rattle.roster.specs.declared.Written.the-variants as written
@@ -26,7 +27,7 @@ module _ {text before : List ℕ} where
   read-left f e =
       record {
         answer = sym e;
-        ends = sym (left-alone (readAnswer text .number) _ before (λ z. let some = faulty f in let same = ap (λ (a : Answer). a .number) e in omega arith));
+        ends = sym (left-alone (readAnswer text .number) _ before (λ z. not-zero f (sym (ap (λ (a : Answer). a .number) e) ∙ z)));
       }
 
   pub read-done : {slots : ℕ} {after : List ℕ} → readAnswer text ≡ done slots → after ≡ begunWith (lineEnds text) before
@@ -43,11 +44,12 @@ module _ (ss : List (List ℕ)) (room : ℕ) where
   module _ (e : judgeAnswer ss .number ≡ 0) where
     pub judged-length : judgeAnswer ss ≡ done (length (rosterText ss))
     unfolding judgeAnswer
-    judged-length = none-found (done (length (rosterText ss))) _ [] (map asLine ss) e
+    judged-length = fine-faultless (map asLine ss) (done (length (rosterText ss))) e .1
 
     pub answer-room : writeAnswer ss room ≡ roomAnswer room (rosterText ss)
     unfolding judgeAnswer writeAnswer
-    answer-room = none-found (done (length (rosterText ss))) _ [] (map asLine ss) e
+    answer-room =
+        faultless-fine (map asLine ss) (roomAnswer room (rosterText ss)) (fine-faultless (map asLine ss) (done (length (rosterText ss))) e .0)
 
 module _ (chars ends before : List ℕ) where
   write-left : {r : Written} → writtenOf r ≡ writeAnswer (serials chars ends) (length before) → writtenOf r .number ≢ 0 → WriteCall chars ends before r before

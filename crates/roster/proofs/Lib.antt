@@ -5,7 +5,7 @@ pub mod Calls
 pub mod JudgedTo
 pub mod PutTo
 pub mod Roster
-pub mod Texts
+pub mod Lines
 pub mod Apart
 pub mod Tells
 pub mod Round

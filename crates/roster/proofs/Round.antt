@@ -19,7 +19,7 @@ use Rattle.roster.specs.Text.{rosterText}
 use Rattle.roster.specs.Calls.{readOf, writtenOf, readAnswer, writeAnswer, asLine, ReadCall, WriteCall}
 use Rattle.roster.specs.Roster.{Roster}
 use Rattle.roster.proofs.Roster.{serials-as-lines, passed, roster-faultless}
-use Rattle.roster.proofs.Texts.{lines-of-text, all-ended, text-of-lines}
+use Rattle.roster.proofs.Lines.{lines-of-text, all-ended, text-of-lines}
 use Rattle.roster.proofs.Apart.{read-apart, written-apart}
 use Rattle.roster.proofs.Tells.{read-faultless, read-serials, read-roster, written-text, written-roster}
 

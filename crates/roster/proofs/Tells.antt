@@ -21,6 +21,7 @@ use Rattle.lines.specs.declared.Fault.{Fault}
 use Rattle.lines.specs.Lines.{lines}
 use Rattle.lines.specs.Faults.{numberOf}
 use Rattle.lines.specs.FirstFault.{serialsOf, Faultless, FirstFault}
+use Rattle.lines.proofs.Faults.{not-zero}
 use Rattle.lines.proofs.FirstFault.{search-outcome, fine-faultless, first-fault}
 use Rattle.roster.specs.declared.Reading.the-variants.{Slots}
 use Rattle.roster.specs.declared.Reading.the-variants as read
@@ -30,8 +31,9 @@ use Rattle.roster.specs.Text.{rosterText, lineEnds}
 use Rattle.roster.specs.Calls.{readOf, writtenOf, readAnswer, writeAnswer, asLine, begunWith, ReadCall, WriteCall}
 use Rattle.roster.specs.Roster.{Roster}
 use Rattle.roster.proofs.Roster.{count-of, serials-as-lines, is-roster, each-found, long-nowhere}
-use Rattle.roster.proofs.Texts.{serials-of-lines, count-ends}
-use Rattle.roster.proofs.Apart.{not-zero, not-35}
+use Rattle.roster.proofs.Text.{length-ends}
+use Rattle.roster.proofs.Lines.{serials-of-lines}
+use Rattle.roster.proofs.Apart.{not-35}
 
 abbrev number : Answer → ℕ
 number a = a .number
@@ -115,7 +117,7 @@ module _ {text before after : List ℕ} {n : ℕ} (call : ReadCall text before (
   read-slots = slots-tell text (call .answer) .1
 
   as-many : n ≡ length (lineEnds text)
-  as-many = read-slots ∙ sym (count-ends text)
+  as-many = read-slots ∙ sym (length-ends 0 (lines text))
 
   pub read-serials : serials text (take n after) ≡ serialsOf (lines text)
   read-serials = ap (serials text) (begun-taken (lineEnds text) before (call .ends) (ap number (call .answer)) as-many) ∙ serials-of-lines text

@@ -47,6 +47,15 @@ part-judge-end c = search needs
 judge-requires : tie.Need-judge-requires Inv-loop μ-loop
 judge-requires c κs = search needs
 
+-- what the line's tests say of it
+judged : (c : tie.After-judge Inv-loop μ-loop)
+    → let a = c .before .before .before .before .before .before .before .before .before .before .args in
+    let l = c .before .before .before .before .before .loop in
+    let end = c .before .before .before .find .result in
+    judgedNumber (c .judge .result)
+    ≡ lineNumber (serials (a .text .now) (take (l .slots) (l .found))) (take (end - l .start) (drop (l .start) (a .text .now))) (ltb end (length (a .text .now)))
+judged c = c .judge .ensures
+
 enum-known-judged : tie.Need-enum-known-judged Inv-loop μ-loop
 enum-known-judged c = search needs
 
@@ -60,7 +69,7 @@ returns c =
     let f = c .before .before .before .before .before .before .find in
     let fault = c .before .judged .given .0 .0 in
     read-left fault (read-refused (a .text .now) (l .start) (f .result) (omega arith) (f .ensures .0) (l .inv .1) (f .ensures .1) fault
-    (sym (ap judgedNumber (c .before .judged .given .1)) ∙ c .before .before .before .judge .ensures))
+    (sym (ap judgedNumber (c .before .judged .given .1)) ∙ judged (c .before .before .before)))
 
 enum-told : tie.Need-enum-told Inv-loop μ-loop
 enum-told c = search needs
@@ -71,7 +80,7 @@ passed : (c : tie.After-enum-told Inv-loop μ-loop)
     let l = c .before .before .before .before .before .before .before .loop in
     let end = c .before .before .before .before .before .find .result in
     0 ≡ lineNumber (serials (a .text .now) (take (l .slots) (l .found))) (take (end - l .start) (drop (l .start) (a .text .now))) (ltb end (length (a .text .now)))
-passed c = sym (ap judgedNumber (c .enum-told .given .1)) ∙ c .before .before .judge .ensures
+passed c = sym (ap judgedNumber (c .enum-told .given .1)) ∙ judged (c .before .before)
 
 low : (c : tie.After-enum-told Inv-loop μ-loop) → c .before .before .before .before .before .before .before .loop .slots < 257
 low c =

@@ -7,7 +7,7 @@ use native.Mathlib.Omega.{arith}
 use borrow.Author.Needs.{needs}
 use denote.Enum.Declared.{tagOf, declared}
 use Rattle.serials.specs.Serials.{serials}
-use Rattle.lines.proofs.Faults.{faulty}
+use Rattle.lines.proofs.Faults.{not-zero}
 use Rattle.roster.proofs.Written.{enum}
 use Rattle.roster.specs.declared.Written.{Written}
 use Rattle.roster.specs.declared.Written.the-variants.{Length, Refused, NoRoom}
@@ -25,7 +25,7 @@ enum-known-judged c = search needs
 -- an answer that is no length is a refusal
 refused : (r : Written) → (tagOf (declared enum) r ≡ 1) ⊎ (tagOf (declared enum) r ≡ 2) → writtenOf r .number ≢ 0
 refused (Length n) keys z = ⊎-elim (λ e. omega arith) (λ e. omega arith) keys
-refused (Refused f line) keys z = let some = faulty f in omega arith
+refused (Refused f line) keys z = not-zero f z
 refused NoRoom keys z = omega arith
 
 returns : tie.Need-returns

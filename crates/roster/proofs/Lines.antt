@@ -11,13 +11,11 @@ use lib.Dec.{eqb}
 use lib.ListN.{length, getD}
 use Rattle.base.specs.Choice.{choose}
 use Rattle.serials.specs.Serials.{serials, serialsFrom}
-use Rattle.serials.proofs.Laws.{length-serials}
 use Rattle.lines.specs.Lines.{Line, lineFeed, begun, lines, isCharacter}
 use Rattle.lines.specs.FirstFault.{serialsOf, noLine}
 use Rattle.roster.specs.Text.{rosterText, endsFrom, lineEnds}
 use Rattle.roster.specs.Calls.{asLine}
 use Rattle.roster.specs.Roster.{Serial}
-use Rattle.roster.proofs.Roster.{count-of}
 
 -- the lines of a text with one byte more, which is a line feed or not
 abbrev front : Bool → ℕ → List Line → List Line
@@ -46,9 +44,6 @@ serials-of-lines (c ∷ t) = go (eqb c lineFeed) (serials-of-lines t)
     go : (b : Bool) → serials t (lineEnds t) ≡ serialsOf (lines t) → serials (c ∷ t) (endsFrom 0 (front b c (lines t))) ≡ serialsOf (front b c (lines t))
     go true e = ap (_∷_ []) (behind c t 0 (lines t) ∙ e)
     go false e = begun-serials c t (lines t) e
-
-pub count-ends : (text : List ℕ) → length (lineEnds text) ≡ length (lines text)
-count-ends text = sym (length-serials text 0 (lineEnds text)) ∙ ap length (serials-of-lines text) ∙ count-of (lines text)
 
 -- ---- the lines of a written text
 no-line-feed : (c : ℕ) → isCharacter c ≡ true → eqb c lineFeed ≡ false
