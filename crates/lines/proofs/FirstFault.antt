@@ -15,9 +15,10 @@ use lib.ListN.{length, getD, take, drop, length-map, drop-of-length-le}
 use lib.Seq.{take-suc, drop-cons, length-take-le}
 use Rattle.base.specs.Choice.{choose, both}
 use Rattle.base.specs.Refusal.{Refusal, firstOf, Answer}
-use Rattle.base.proofs.Choice.{both-true}
+use Rattle.base.proofs.Choice.{both-true, below-or-not}
 use Rattle.lines.specs.Lines.{Line}
-use Rattle.lines.specs.Faults.{lineNumber, unlessFaulty, firstFault}
+use Rattle.lines.specs.Faults.{lineNumber, refusedAt, unlessFaulty, firstFault}
+use Rattle.lines.proofs.Faults.{fine-slot}
 use Rattle.lines.specs.FirstFault.{serialsOf, noLine, testsOf, Faultless, FirstFault}
 
 module _ (ls : List Line) (fine : Answer) where
@@ -40,7 +41,7 @@ module _ (ls : List Line) (fine : Answer) where
   -- what it gives: the other answer, or a fault
   abbrev Outcome : Answer → Type 0
   Outcome a =
-      (Faultless ls × (a ≡ fine)) ⊎ ((line : ℕ) × (number : ℕ) × FirstFault ls line number × (a ≡ record { number = number; values = line ∷ [] }))
+      (Faultless ls × (a ≡ fine)) ⊎ ((line : ℕ) × (number : ℕ) × FirstFault ls line number × (a ≡ refusedAt number line))
 
   outcome : (left k : ℕ) → k + left ≡ length ls → ((j : ℕ) → j < k → firstOf (testsOf ls j) ≡ 0) → Outcome (from k)
   unfolding firstFault
@@ -67,7 +68,7 @@ module _ (ls : List Line) (fine : Answer) where
   faultless-fine passed =
       ⊎-elim (λ p. p .1) (λ p. absurd (omega (arith, p .2 .given, p .2 .fails, passed (p .2 .slot) (p .2 .there)))) search-outcome
 
-  pub first-fault : {number line : ℕ} → record { number = number; values = line ∷ [] } ≡ firstFault [] ls fine → number ≢ fine .number
+  pub first-fault : {number line : ℕ} → refusedAt number line ≡ firstFault [] ls fine → number ≢ fine .number
       → FirstFault ls line number
   first-fault e n =
       ⊎-elim (λ p. absurd (n (ap (λ (a : Answer). a .number) (e ∙ p .1))))
@@ -75,6 +76,21 @@ module _ (ls : List Line) (fine : Answer) where
       let same = e ∙ p .3 in
       rw (ap (λ (a : Answer). a .number) same, ap (λ (a : Answer). getD (a .values) 0 0) same) (p .2))
       search-outcome
+
+-- a line past 257 fails its last test, so no later one is refused than 258
+pub fault-most : {ls : List Line} {line number : ℕ} → FirstFault ls line number → line ≤ 258
+unfolding lineNumber
+fault-most {ls} f = ⊎-elim (λ h. absurd (past h)) (λ h. omega (arith, f .counted)) (below-or-not 257 (f .slot))
+  where
+    past : 257 < f .slot → ⊥
+    past h =
+        let l = getD ls 257 noLine in
+        omega (
+          arith,
+          fine-slot (serialsOf (take 257 ls)) (l .serial) (l .ended) (sym (f .passed 257 h)),
+          length-map (take 257 ls) (λ (l : Line). l .serial),
+          length-take-le 257 ls (omega (arith, f .there)),
+        )
 
 -- ---- within a line the lowest number, since the tests' numbers rise
 abbrev rising : ℕ → List Refusal → Bool
