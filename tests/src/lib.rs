@@ -7,6 +7,8 @@ pub mod job;
 pub mod judge;
 pub mod program;
 pub mod random;
+pub mod roster;
+pub mod rosters;
 pub mod shapes;
 pub mod stripe;
 pub mod table;
