@@ -1,7 +1,9 @@
 //! Runs the programs that `rt` built. They are x86-64 Linux programs for the machine's own loader.
 
+use std::ffi::OsStr;
 use std::fs::File;
 use std::io::{ErrorKind, Write};
+use std::os::unix::ffi::OsStrExt;
 use std::path::PathBuf;
 use std::process::{Child, Command, ExitStatus, Stdio};
 use std::thread;
@@ -46,10 +48,8 @@ fn ended(name: &str, child: &mut Child) -> ExitStatus {
     }
 }
 
-/// Runs the program on input that comes through a pipe in pieces, with a pause after each so that
-/// it is read before the next arrives.
-pub fn run_pieces<'a>(name: &str, pieces: impl Iterator<Item = &'a [u8]> + Send, pause: Duration) -> Vec<u8> {
-    let mut child = start(name, Stdio::piped(), Stdio::piped());
+/// Hands a program its input in pieces, with a pause after each so that it is read before the next arrives, while `end` waits for it.
+fn fed<'a, T>(mut child: Child, pieces: impl Iterator<Item = &'a [u8]> + Send, pause: Duration, end: impl FnOnce(Child) -> T) -> T {
     let mut stdin = child.stdin.take().expect("standard input is piped");
     thread::scope(|scope| {
         scope.spawn(move || {
@@ -62,8 +62,13 @@ pub fn run_pieces<'a>(name: &str, pieces: impl Iterator<Item = &'a [u8]> + Send,
                 thread::sleep(pause);
             }
         });
-        output(name, child)
+        end(child)
     })
+}
+
+/// Runs the program on input that comes through a pipe in pieces.
+pub fn run_pieces<'a>(name: &str, pieces: impl Iterator<Item = &'a [u8]> + Send, pause: Duration) -> Vec<u8> {
+    fed(start(name, Stdio::piped(), Stdio::piped()), pieces, pause, |child| output(name, child))
 }
 
 pub fn run(name: &str, input: &[u8]) -> Vec<u8> {
@@ -77,16 +82,45 @@ pub fn run_on_file(name: &str, file: File) -> Vec<u8> {
     output(name, child)
 }
 
-/// How a program ended, and what it wrote to standard error, which fits in a pipe.
+/// How a program ended, and what it wrote to pipes, in which it fits.
 pub struct Ending {
     pub status: ExitStatus,
+    pub output: Vec<u8>,
     pub errors: String,
 }
 
 fn ending(name: &str, mut child: Child) -> Ending {
     let status = ended(name, &mut child);
-    let errors = child.wait_with_output().expect("a child can be waited for").stderr;
-    Ending { status, errors: String::from_utf8(errors).expect("text") }
+    let output = child.wait_with_output().expect("a child can be waited for");
+    Ending { status, output: output.stdout, errors: String::from_utf8(output.stderr).expect("text") }
+}
+
+/// Where a program's input comes from.
+pub enum Input<'a> {
+    /// A pipe, in pieces, with a pause after each.
+    Pieces(Vec<&'a [u8]>, Duration),
+    File(File),
+    /// Standard input is not open.
+    Closed,
+}
+
+/// Runs the program with arguments.
+pub fn run_with(name: &str, arguments: &[&[u8]], input: Input) -> Ending {
+    let mut command = match input {
+        Input::Closed => Command::new("sh"),
+        _ => Command::new(path(name)),
+    };
+    if let Input::Closed = input {
+        command.args(["-c", "exec \"$0\" \"$@\" <&-"]).arg(path(name));
+    }
+    command.args(arguments.iter().map(|argument| OsStr::from_bytes(argument))).stdout(Stdio::piped()).stderr(Stdio::piped());
+    match input {
+        Input::Pieces(pieces, pause) => {
+            fed(spawn(name, command.stdin(Stdio::piped())), pieces.into_iter(), pause, |child| ending(name, child))
+        }
+        Input::File(file) => ending(name, spawn(name, command.stdin(file))),
+        Input::Closed => ending(name, spawn(name, &mut command)),
+    }
 }
 
 /// Runs the program with its output going to a file.
