@@ -1,7 +1,9 @@
-//! Says where the proved library is, for the tests that link it.
+//! Says where the proved libraries are, for the tests that link them.
 
 fn main() {
     let folder = concat!(env!("CARGO_MANIFEST_DIR"), "/../target/staticlib");
     println!("cargo:rustc-link-search=native={folder}");
-    println!("cargo:rerun-if-changed={folder}/libshelf.a");
+    for library in ["shelf", "roster_calls"] {
+        println!("cargo:rerun-if-changed={folder}/lib{library}.a");
+    }
 }
