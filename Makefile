@@ -24,10 +24,12 @@ example: job
 	@printf 'SRJ\0\1\2\0\2\0\1\0\0\0\1\0\0\201\34' | target/bin/shelf_job | od -An -tx1
 
 # How fast the library is, beside a plain encoder in Rust and, where they are installed, ISA-L and Linux's sources. It installs
-# nothing. The field's product isn't among what C calls, so the bench has a library of it, target/staticlib/libbench_product.a.
+# nothing. The field's product and the roster aren't among what C calls, so the bench has libraries of them,
+# target/staticlib/libbench_product.a and libroster_calls.a.
 bench: lib
 	@command -v cargo >/dev/null || { echo 'cargo is missing: it is not on PATH' >&2; exit 2; }
 	rt staticlib bench_product
+	rt staticlib roster_calls
 	bench/linux
 	cd bench && cargo run --quiet --release --offline --locked
 

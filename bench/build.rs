@@ -1,5 +1,7 @@
-//! Links anew where the product for the bench changed.
+//! Links anew where the libraries for the bench changed.
 
 fn main() {
-    println!("cargo:rerun-if-changed=../target/staticlib/libbench_product.a");
+    for library in ["bench_product", "roster_calls"] {
+        println!("cargo:rerun-if-changed=../target/staticlib/lib{library}.a");
+    }
 }

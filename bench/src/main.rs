@@ -1,8 +1,8 @@
 //! Measures libshelf.a beside a plain encoder in Rust and, where they are there, ISA-L and
 //! Linux's rebuild of two data disks; and the library's product of two bytes, beside the way by powers and logarithms in plain
-//! Rust and, where it is there, ISA-L's.
+//! Rust and, where it is there, ISA-L's; and the reading of a roster.
 //!
-//!     bench                 the table of ratios, and the one of products of two bytes
+//!     bench                 the table of ratios, the one of products of two bytes, and the one of rosters
 //!     bench --stack         the bytes of stack that each call uses
 //!     bench --plot FILE     how the time of an encode grows with n and B, as SVG
 
@@ -13,6 +13,7 @@ mod measure;
 mod plain;
 mod plot;
 mod product;
+mod roster;
 mod shelf;
 mod stack;
 mod table;
@@ -30,6 +31,8 @@ fn main() {
             table::print(Isal::find(), Linux::find());
             println!();
             product::print();
+            println!();
+            roster::print();
         }
         ["--stack"] => stack::print(),
         ["--plot", file] => std::fs::write(file, plot::svg()).unwrap_or_else(|e| panic!("{file}: {e}")),
