@@ -1,0 +1,7 @@
+pub mod Kept
+pub mod Begins
+pub mod Told
+pub mod Answered
+pub mod Enough
+pub mod Asked
+pub mod Small

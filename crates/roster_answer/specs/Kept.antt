@@ -1,0 +1,30 @@
+-- What is kept of a text of any length: its first 5,418 bytes, which are 258 lines of 20 characters, and of the others the first that no serial has.
+use Prim.Native.Nat.{ℕ}
+use mathlib.Core.Path.{_≡_}
+use mathlib.Core.Bool.{Bool, not}
+use mathlib.Core.List.{List, [], _∷_, _++_}
+use lib.Dec.{eqb, ltb}
+use lib.ListN.{length, take, drop}
+use Rattle.base.specs.Choice.{choose, both, either}
+use Rattle.lines.specs.Lines.{isCharacter}
+
+-- the first byte that is not a capital letter or a digit, if there is one
+abbrev pub firstOther : List ℕ → List ℕ
+firstOther [] = []
+firstOther (c ∷ t) = choose (isCharacter c) (firstOther t) (c ∷ [])
+
+-- where n bytes are kept
+abbrev pub keptOf : ℕ → List ℕ → List ℕ
+keptOf n t = take n t ++ firstOther (drop n t)
+
+unfoldable pub kept : List ℕ → List ℕ
+kept t = keptOf 5418 t
+
+-- whether a byte is kept after n that are, where `limit` bytes are kept whatever they are
+abbrev pub isTaken : ℕ → ℕ → ℕ → Bool
+isTaken limit n c = either (ltb n limit) (both (eqb n limit) (not (isCharacter c)))
+
+-- the first n bytes of an array are what is kept of a text
+pub record Holds (held : List ℕ) (n : ℕ) (t : List ℕ) : Type 0 where
+  pub count : n ≡ length (kept t)
+  pub bytes : take n held ≡ kept t
