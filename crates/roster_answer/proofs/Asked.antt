@@ -20,6 +20,7 @@ use Rattle.serials.proofs.LookUp.{other-alike}
 use Rattle.roster.specs.Text.{endsFrom, lineEnds}
 use Rattle.roster.specs.Calls.{readAnswer}
 use Rattle.roster_answer.specs.Answer.{told, answerText}
+use Rattle.roster_answer.specs.Kept.{askedSize}
 use Rattle.roster_answer.proofs.Told.{told-refused}
 
 pub no-fault : (k line : ℕ) (next : Answer) → unlessFaulty k line next .number ≡ 0 → (k ≡ 0) × (next .number ≡ 0)
@@ -42,14 +43,14 @@ nowhere : (text asked : List ℕ) → readAnswer text .number ≡ 0 → 20 < len
 unfolding readAnswer
 nowhere text asked e h = longer-nowhere text asked (record { number = 0; values = length (lines text) ∷ [] }) h [] (lines text) 0 0 e
 
-pub asked-enough : (text asked : List ℕ) → answerText text asked ≡ answerText text (take 21 asked)
+pub asked-enough : (text asked : List ℕ) → answerText text asked ≡ answerText text (take askedSize asked)
 unfolding answerText
 asked-enough text asked =
-    ⊎-elim (λ h. longer h (ℕ-discrete (readAnswer text .number) 0)) (λ h. rw (take-all 21 asked h)) (below-or-not 21 (length asked))
+    ⊎-elim (λ h. longer h (ℕ-discrete (readAnswer text .number) 0)) (λ h. rw (take-all askedSize asked h)) (below-or-not askedSize (length asked))
   where
-    longer : 21 < length asked → Dec (readAnswer text .number ≡ 0)
+    longer : askedSize < length asked → Dec (readAnswer text .number ≡ 0)
         → told (readAnswer text .number) (readAnswer text .values) (lookUp (serials text (lineEnds text)) asked)
-        ≡ told (readAnswer text .number) (readAnswer text .values) (lookUp (serials text (lineEnds text)) (take 21 asked))
-    longer h (yes e) = rw (nowhere text asked e (omega arith), nowhere text (take 21 asked) e (omega (arith, length-take 21 asked)))
+        ≡ told (readAnswer text .number) (readAnswer text .values) (lookUp (serials text (lineEnds text)) (take askedSize asked))
+    longer h (yes e) = rw (nowhere text asked e (omega arith), nowhere text (take askedSize asked) e (omega (arith, length-take askedSize asked)))
     longer h (no n) =
         told-refused (readAnswer text .number) (readAnswer text .values) _ n ∙ sym (told-refused (readAnswer text .number) (readAnswer text .values) _ n)

@@ -20,7 +20,7 @@ use Rattle.lines.specs.Faults.{lineNumber, unlessFaulty, firstFault}
 use Rattle.lines.proofs.Faults.{fine-length, fine-slot}
 use Rattle.roster.specs.Calls.{readAnswer}
 use Rattle.roster_answer.specs.Answer.{answerText}
-use Rattle.roster_answer.specs.Kept.{firstOther, keptOf, kept}
+use Rattle.roster_answer.specs.Kept.{keptSize, firstOther, keptOf, kept}
 use Rattle.roster_answer.proofs.Told.{told-refused}
 use Rattle.roster_answer.proofs.Kept.{kept-short, other-twice}
 
@@ -154,12 +154,12 @@ refused-answer t u asked r =
     let n = readAnswer u .number in
     rw (r .same) (told-refused n (readAnswer u .values) _ (r .number) ∙ sym (told-refused n (readAnswer u .values) _ (r .number)))
 
-kept-long : (t : List ℕ) → 5418 < length t → Refused (readAnswer (kept t)) (readAnswer t)
+kept-long : (t : List ℕ) → keptSize < length t → Refused (readAnswer (kept t)) (readAnswer t)
 unfolding readAnswer kept
-kept-long t h = kept-refused (record { number = 0; values = length (lines (keptOf 5418 t)) ∷ [] }) (record { number = 0; values = length (lines t) ∷ [] }) [] [] t 5418 record { unfed = tt; few = omega arith; enough = omega arith; past = h }
+kept-long t h = kept-refused (record { number = 0; values = length (lines (keptOf keptSize t)) ∷ [] }) (record { number = 0; values = length (lines t) ∷ [] }) [] [] t keptSize record { unfed = tt; few = omega arith; enough = omega arith; past = h }
 
 pub kept-answer : (t asked : List ℕ) → answerText (kept t) asked ≡ answerText t asked
-kept-answer t asked = ⊎-elim long-text (λ h. ap (λ (l : List ℕ). answerText l asked) (kept-short t h)) (below-or-not 5418 (length t))
+kept-answer t asked = ⊎-elim long-text (λ h. ap (λ (l : List ℕ). answerText l asked) (kept-short t h)) (below-or-not keptSize (length t))
   where
-    long-text : 5418 < length t → answerText (kept t) asked ≡ answerText t asked
+    long-text : keptSize < length t → answerText (kept t) asked ≡ answerText t asked
     long-text h = refused-answer (kept t) t asked (kept-long t h)

@@ -14,7 +14,7 @@ use lib.Seq.{take-all, length-take-le, take-suc, take-suc-set, set-getD}
 use Rattle.base.specs.Choice.{choose}
 use Rattle.base.proofs.Choice.{below-or-not}
 use Rattle.lines.specs.Lines.{isCharacter}
-use Rattle.roster_answer.specs.Kept.{firstOther, keptOf, kept, isTaken, Holds}
+use Rattle.roster_answer.specs.Kept.{keptSize, heldSize, firstOther, keptOf, kept, isTaken, Holds}
 
 -- ---- the first byte that no serial has
 other-once : (a b : List ℕ) → firstOther (firstOther a ++ b) ≡ firstOther (a ++ b)
@@ -64,17 +64,17 @@ keep-full (suc n) [] b h = absurd (omega arith)
 keep-full (suc n) (c ∷ a) b h = ap (_∷_ c) (keep-full n a b (omega arith))
 
 -- ---- what the program keeps
-pub kept-short : (t : List ℕ) → length t ≤ 5418 → kept t ≡ t
+pub kept-short : (t : List ℕ) → length t ≤ keptSize → kept t ≡ t
 unfolding kept
-kept-short t h = keep-short 5418 t h
+kept-short t h = keep-short keptSize t h
 
 pub kept-pieces : (a b : List ℕ) → kept (kept a ++ b) ≡ kept (a ++ b)
 unfolding kept
-kept-pieces a b = keep-pieces 5418 a b
+kept-pieces a b = keep-pieces keptSize a b
 
-pub kept-full : (a b : List ℕ) → length (kept a) ≡ 5419 → kept (a ++ b) ≡ kept a
+pub kept-full : (a b : List ℕ) → length (kept a) ≡ heldSize → kept (a ++ b) ≡ kept a
 unfolding kept
-kept-full a b h = keep-full 5418 a b h
+kept-full a b h = keep-full keptSize a b h
 
 -- ---- one byte more
 other-more : (t : List ℕ) (c : ℕ) → firstOther (t ++ (c ∷ [])) ≡ choose (isTaken 0 (length (firstOther t)) c) (firstOther t ++ (c ∷ [])) (firstOther t)
@@ -104,44 +104,44 @@ keep-more (suc n) (d ∷ t) c =
     go true = refl
     go false = refl
 
-kept-more : (t : List ℕ) (c : ℕ) → kept (t ++ (c ∷ [])) ≡ choose (isTaken 5418 (length (kept t)) c) (kept t ++ (c ∷ [])) (kept t)
+kept-more : (t : List ℕ) (c : ℕ) → kept (t ++ (c ∷ [])) ≡ choose (isTaken keptSize (length (kept t)) c) (kept t ++ (c ∷ [])) (kept t)
 unfolding kept
-kept-more t c = keep-more 5418 t c
+kept-more t c = keep-more keptSize t c
 
 -- ---- what an array holds
-module _ (held : List ℕ) (size : length held ≡ 5419) where
-  pub holds-short : (n : ℕ) → n ≤ 5418 → Holds held n (take n held)
+module _ (held : List ℕ) (size : length held ≡ heldSize) where
+  pub holds-short : (n : ℕ) → n ≤ keptSize → Holds held n (take n held)
   holds-short n h =
       let is = kept-short (take n held) (omega (arith, length-take n held)) in
       record { count = sym (ap length is ∙ length-take-le n held (omega arith)); bytes = sym is }
 
   module _ {n : ℕ} {t : List ℕ} (c : ℕ) (h : Holds held n t) where
-    more : {b : Bool} → isTaken 5418 n c ≡ b → kept (t ++ (c ∷ [])) ≡ choose b (take n held ++ (c ∷ [])) (take n held)
+    more : {b : Bool} → isTaken keptSize n c ≡ b → kept (t ++ (c ∷ [])) ≡ choose b (take n held ++ (c ∷ [])) (take n held)
     more e = rw (h .bytes, ← e, h .count) (kept-more t c)
 
-    pub holds-taken : isTaken 5418 n c ≡ true → n < 5419 → Holds (set held n c) (n + 1) (t ++ (c ∷ []))
+    pub holds-taken : isTaken keptSize n c ≡ true → n < heldSize → Holds (set held n c) (n + 1) (t ++ (c ∷ []))
     holds-taken e room =
         record {
           count = rw (more e) (omega (arith, h .count, ap length (h .bytes), length-append (take n held) (c ∷ [])));
           bytes = rw (add-one n) (take-suc-set held n c (omega arith) ∙ sym (more e));
         }
 
-    pub holds-left : isTaken 5418 n c ≡ false → Holds held n (t ++ (c ∷ []))
+    pub holds-left : isTaken keptSize n c ≡ false → Holds held n (t ++ (c ∷ []))
     holds-left e = record { count = rw (more e, h .bytes) (h .count); bytes = sym (more e) }
 
   -- all of the array: its last byte comes after the others
-  module _ (n : ℕ) (h : 5418 < n) where
-    all : take n held ≡ take 5418 held ++ (getD held 5418 0 ∷ [])
-    all = take-all n held (omega arith) ∙ sym (take-all 5419 held (omega arith)) ∙ take-suc held 5418 0 (omega arith)
+  module _ (n : ℕ) (h : keptSize < n) where
+    all : take n held ≡ take keptSize held ++ (getD held keptSize 0 ∷ [])
+    all = take-all n held (omega arith) ∙ sym (take-all heldSize held (omega arith)) ∙ take-suc held keptSize 0 (omega arith)
 
-    pub holds-last : isTaken 5418 5418 (getD held 5418 0) ≡ true → Holds held 5419 (take n held)
-    holds-last e = rw all (rw (set-getD held 5418 0) at (holds-taken (getD held 5418 0) (holds-short 5418 (omega arith)) e (omega arith)))
+    pub holds-last : isTaken keptSize keptSize (getD held keptSize 0) ≡ true → Holds held heldSize (take n held)
+    holds-last e = rw all (rw (set-getD held keptSize 0) at (holds-taken (getD held keptSize 0) (holds-short keptSize (omega arith)) e (omega arith)))
 
-    pub holds-others : isTaken 5418 5418 (getD held 5418 0) ≡ false → Holds held 5418 (take n held)
-    holds-others e = rw all (holds-left (getD held 5418 0) (holds-short 5418 (omega arith)) e)
+    pub holds-others : isTaken keptSize keptSize (getD held keptSize 0) ≡ false → Holds held keptSize (take n held)
+    holds-others e = rw all (holds-left (getD held keptSize 0) (holds-short keptSize (omega arith)) e)
 
-pub taken-room : (n c : ℕ) → isTaken 5418 n c ≡ true → n < 5419
-taken-room n c e = ⊎-elim (λ h. h) (λ h. absurd (false≢true (sym (out h) ∙ e))) (below-or-not n 5419)
+pub taken-room : (n c : ℕ) → isTaken keptSize n c ≡ true → n < heldSize
+taken-room n c e = ⊎-elim (λ h. h) (λ h. absurd (false≢true (sym (out h) ∙ e))) (below-or-not n heldSize)
   where
-    out : 5419 ≤ n → isTaken 5418 n c ≡ false
-    out h = rw (le-ltb n 5418 (omega arith), ne-eqb n 5418 (λ e. omega arith))
+    out : heldSize ≤ n → isTaken keptSize n c ≡ false
+    out h = rw (le-ltb n keptSize (omega arith), ne-eqb n keptSize (λ e. omega arith))

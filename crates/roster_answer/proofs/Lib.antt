@@ -5,3 +5,4 @@ pub mod Answered
 pub mod Enough
 pub mod Asked
 pub mod Small
+pub mod Held

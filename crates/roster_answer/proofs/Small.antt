@@ -1,6 +1,6 @@
 -- Each number that is told is below 1,000: a line is at most 258, since 257 are accepted, and a slot at most 256. By induction on the lines.
 -- Assumes nothing.
-use mathlib.Core.Path.{_≡_, refl, sym, _∙_}
+use mathlib.Core.Path.{_≡_, refl, sym}
 use mathlib.Core.Logic.{_≢_}
 use mathlib.Core.Bool.{Bool, true, false}
 use mathlib.Core.List.{List, [], _∷_, _++_}
@@ -9,8 +9,7 @@ use native.Mathlib.Omega.{arith}
 use lib.ListN.{length, getD, length-append}
 use Rattle.base.specs.Choice.{choose}
 use Rattle.base.specs.Refusal.{Answer}
-use Rattle.serials.specs.declared.Found.{Found}
-use Rattle.serials.specs.declared.Found.the-variants.{Slot, Nowhere}
+use Rattle.serials.specs.declared.Found.the-variants.{Slot}
 use Rattle.serials.specs.Serials.{serials}
 use Rattle.serials.specs.LookUp.{alike, lookUpFrom, lookUp}
 use Rattle.serials.proofs.Laws.{length-serials}

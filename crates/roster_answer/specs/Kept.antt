@@ -1,5 +1,5 @@
 -- What is kept of a text of any length: its first 5,418 bytes, which are 258 lines of 20 characters, and of the others the first that no serial has.
-use Prim.Native.Nat.{ℕ}
+use Prim.Native.Nat.{ℕ, _+_, _*_, _≤_}
 use mathlib.Core.Path.{_≡_}
 use mathlib.Core.Bool.{Bool, not}
 use mathlib.Core.List.{List, [], _∷_, _++_}
@@ -7,6 +7,16 @@ use lib.Dec.{eqb, ltb}
 use lib.ListN.{length, take, drop}
 use Rattle.base.specs.Choice.{choose, both, either}
 use Rattle.lines.specs.Lines.{isCharacter}
+use Rattle.roster_answer.specs.Answer.{answerText, Begins}
+
+abbrev pub keptSize : ℕ
+keptSize = 258 * 21
+
+abbrev pub heldSize : ℕ
+heldSize = keptSize + 1
+
+abbrev pub askedSize : ℕ
+askedSize = 21
 
 -- the first byte that is not a capital letter or a digit, if there is one
 abbrev pub firstOther : List ℕ → List ℕ
@@ -18,7 +28,7 @@ abbrev pub keptOf : ℕ → List ℕ → List ℕ
 keptOf n t = take n t ++ firstOther (drop n t)
 
 unfoldable pub kept : List ℕ → List ℕ
-kept t = keptOf 5418 t
+kept t = keptOf keptSize t
 
 -- whether a byte is kept after n that are, where `limit` bytes are kept whatever they are
 abbrev pub isTaken : ℕ → ℕ → ℕ → Bool
@@ -28,3 +38,10 @@ isTaken limit n c = either (ltb n limit) (both (eqb n limit) (not (isCharacter c
 pub record Holds (held : List ℕ) (n : ℕ) (t : List ℕ) : Type 0 where
   pub count : n ≡ length (kept t)
   pub bytes : take n held ≡ kept t
+
+-- The contract over these buffers: whichever text's kept bytes the first n of `held` are, and whichever serial's first bytes the first k of `asked` are, that
+-- text and that serial are answered, whole. What is returned counts bytes of the output.
+pub record AnswerHeldCall (held : List ℕ) (n : ℕ) (asked : List ℕ) (k : ℕ) (before : List ℕ) (r : ℕ) (after : List ℕ) : Type 0 where
+  pub sizes : (length held ≡ heldSize) × (length asked ≡ askedSize)
+  pub answered : (text serial : List ℕ) → Holds held n text → take k asked ≡ take askedSize serial → Begins (answerText text serial) before r after
+  pub within : r ≤ length after

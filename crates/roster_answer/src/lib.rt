@@ -11,13 +11,16 @@ ghost use lib.ListN.{length, take};
 ghost use Rattle.lines.specs.Faults.{numberOf};
 ghost use Rattle.roster_answer.specs.Words.{digit, decimal, foundLine, refusedLine};
 ghost use Rattle.roster_answer.specs.Answer.{answerText, Begins};
-ghost use Rattle.roster_answer.specs.Kept.{isTaken, Holds};
+ghost use Rattle.roster_answer.specs.Kept.{keptSize, heldSize, isTaken, Holds, AnswerHeldCall};
 
 // As many bytes as 258 lines of 20 characters have.
-const KEPT: usize = 5418;
+const KEPT: usize = 258 * 21;
 
 // The bytes that are kept, and one more.
 pub const HELD: usize = KEPT + 1;
+
+// One byte more than a serial has.
+pub const ASKED: usize = 21;
 
 // The longest answer.
 pub const ANSWER: usize = 73;
@@ -31,7 +34,7 @@ pub fn take_in(held: &mut [u8; HELD], count: usize, more: &[u8]) -> usize
 }
 
 fn take_all(held: &mut [u8], count: usize, more: &[u8]) -> usize
-    requires { ⌜ length (now held) ≡ 5419 ⌝ }
+    requires { ⌜ length (now held) ≡ heldSize ⌝ }
     ensures { λ r. ⌜ Holds (now (held .exit)) r (take count (now (held .entry)) ++ now (more .entry)) ⌝ }
 {
     let mut n = count_held(held, count);
@@ -49,7 +52,7 @@ fn take_all(held: &mut [u8], count: usize, more: &[u8]) -> usize
 
 // How many of the first `count` bytes are kept.
 fn count_held(held: &[u8], count: usize) -> usize
-    requires { ⌜ length (now held) ≡ 5419 ⌝ }
+    requires { ⌜ length (now held) ≡ heldSize ⌝ }
     ensures { λ r. ⌜ Holds (now (held .entry)) r (take count (now (held .entry))) ⌝ }
 {
     if count <= KEPT {
@@ -63,7 +66,7 @@ fn count_held(held: &[u8], count: usize) -> usize
 
 // Whether a byte is taken in after n others.
 fn is_taken(n: usize, c: u8) -> bool
-    ensures { λ r. ⌜ r ≡ isTaken 5418 n c ⌝ }
+    ensures { λ r. ⌜ r ≡ isTaken keptSize n c ⌝ }
 {
     if n < KEPT {
         return true;
@@ -72,6 +75,23 @@ fn is_taken(n: usize, c: u8) -> bool
         return false;
     }
     !lines::is_character(c)
+}
+
+// Answers from the bytes that are held of a text and of the asked serial.
+pub fn answer_held(
+    held: &[u8; HELD],
+    count: usize,
+    asked: &[u8; ASKED],
+    length: usize,
+    out: &mut [u8; ANSWER],
+) -> usize
+    ensures { λ r. ⌜ AnswerHeldCall (now (held .entry)) count (now (asked .entry)) length (now (out .entry)) r (now (out .exit)) ⌝ }
+{
+    answer(
+        serials::part(held, 0, count),
+        serials::part(asked, 0, length),
+        out,
+    )
 }
 
 // Answers whether the roster that a text holds has the asked serial. The output has room for every answer.

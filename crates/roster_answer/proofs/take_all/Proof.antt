@@ -10,13 +10,13 @@ use native.Mathlib.Omega.{arith}
 use borrow.Author.Needs.{needs}
 use lib.ListN.{length, getD, take, length-set}
 use lib.Seq.{take-suc, take-all}
-use Rattle.roster_answer.specs.Kept.{Holds}
+use Rattle.roster_answer.specs.Kept.{heldSize, Holds}
 use Rattle.roster_answer.proofs.Kept.{holds-taken, holds-left, taken-room}
 use Rattle.roster_answer.proofs.take_all.Statement.{statement}
 use Rattle.roster_answer.proofs.take_all.Tie as tie
 
 abbrev Inv-loop : tie.InvT-loop
-Inv-loop held₀ count more n₀ i₀ held n i = (i ≤ length more) × (length held ≡ 5419) × Holds held n (take count held₀ ++ take i more)
+Inv-loop held₀ count more n₀ i₀ held n i = (i ≤ length more) × (length held ≡ heldSize) × Holds held n (take count held₀ ++ take i more)
 
 abbrev μ-loop : tie.MeasureT-loop
 μ-loop held₀ count more n₀ i₀ held n i = length more - i
@@ -33,7 +33,7 @@ shared-slice-read-c c = search needs
 is-taken-requires : tie.Need-is-taken-requires Inv-loop μ-loop
 is-taken-requires c κs = search needs
 
-room : (c : tie.Then1 Inv-loop μ-loop) → c .before .before .before .before .loop .n < 5419
+room : (c : tie.Then1 Inv-loop μ-loop) → c .before .before .before .before .loop .n < heldSize
 room c =
     let a = c .before .before .before .before .before .before .before .before .before .args in
     let l = c .before .before .before .before .loop in

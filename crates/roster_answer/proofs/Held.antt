@@ -1,0 +1,25 @@
+-- An answer to the bytes that are held is the answer to the whole text and the whole serial.
+-- Assumes nothing.
+use mathlib.Core.Path.{_≡_, sym, ap, ap₂, _∙_}
+use mathlib.Core.List.{List}
+use Prim.Native.Nat.{ℕ, _-_}
+use native.Mathlib.Nat.{sub-zero}
+use native.Mathlib.Omega.{arith}
+use lib.ListN.{length, take, length-append}
+use Rattle.roster_answer.specs.Answer.{answerText, Begins}
+use Rattle.roster_answer.specs.Kept.{heldSize, askedSize, kept, AnswerHeldCall}
+use Rattle.roster_answer.proofs.Enough.{kept-answer}
+use Rattle.roster_answer.proofs.Asked.{asked-enough}
+
+pub held-answered : {held asked before after t a : List ℕ} {n k r : ℕ} → (length held ≡ heldSize) × (length asked ≡ askedSize) → t ≡ take (n - 0) held
+    → a ≡ take (k - 0) asked → Begins (answerText t a) before r after → AnswerHeldCall held n asked k before r after
+held-answered {held} {asked} {before} {after} {t} {a} {n} {k} {r} sizes text-is serial-is call =
+    record {
+      sizes = sizes;
+      answered =
+          λ text serial h is.
+          let whole : t ≡ kept text = rw (sub-zero n) at text-is ∙ h .bytes in
+          let cut : a ≡ take askedSize serial = rw (sub-zero k) at serial-is ∙ is in
+          rw (asked-enough text serial ∙ sym (kept-answer text (take askedSize serial)) ∙ sym (ap₂ answerText whole cut)) call;
+      within = omega (arith, call .count, simp length-append at (ap length (call .output)));
+    }
