@@ -1,6 +1,6 @@
 # `make` alone answers the first job.
 .DEFAULT_GOAL = example
-.PHONY: example test toolchain lib job bench install uninstall
+.PHONY: example test toolchain lib job find bench install uninstall
 # One rt at a time: they share target/.
 .NOTPARALLEL:
 
@@ -18,6 +18,10 @@ lib: toolchain
 # The job program, target/bin/shelf_job.
 job: toolchain
 	rt check shelf_job
+
+# The program that finds a disk's slot, target/bin/roster_find.
+find: toolchain
+	rt check roster_find
 
 # A first job: two lost data disks come back from P and Q.
 example: job
@@ -40,9 +44,9 @@ bindir = $(DESTDIR)$(PREFIX)/bin
 libdir = $(DESTDIR)$(PREFIX)/lib
 includedir = $(DESTDIR)$(PREFIX)/include
 
-install: lib job
+install: lib job find
 	install -d '$(bindir)' '$(libdir)/pkgconfig' '$(includedir)'
-	install -m 755 target/bin/shelf_job '$(bindir)'
+	install -m 755 target/bin/shelf_job target/bin/roster_find '$(bindir)'
 	install -m 644 target/staticlib/libshelf.a '$(libdir)'
 	install -m 644 include/shelf.h '$(includedir)'
 	printf '%s\n' 'prefix=$(PREFIX)' 'libdir=$${prefix}/lib' 'includedir=$${prefix}/include' '' 'Name: shelf' \
@@ -52,4 +56,4 @@ install: lib job
 
 # Folders stay: others may use them.
 uninstall:
-	rm -f '$(bindir)/shelf_job' '$(libdir)/libshelf.a' '$(libdir)/pkgconfig/shelf.pc' '$(includedir)/shelf.h'
+	rm -f '$(bindir)/shelf_job' '$(bindir)/roster_find' '$(libdir)/libshelf.a' '$(libdir)/pkgconfig/shelf.pc' '$(includedir)/shelf.h'
