@@ -1,3 +1,4 @@
 pub mod Lines
 pub mod Faults
 pub mod FirstFault
+pub mod Examples

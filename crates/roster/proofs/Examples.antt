@@ -4,25 +4,20 @@ use mathlib.Core.Path.{_≡_, refl}
 use mathlib.Core.List.{List, [], _∷_}
 use Prim.Native.Nat.{ℕ, zero, suc, _+_, _/_, _%_}
 use Rattle.serials.specs.declared.Found.the-variants.{Slot, Nowhere}
+use Rattle.serials.specs.Bytes.{bytes}
 use Rattle.serials.specs.Serials.{serials, serialsFrom}
 use Rattle.serials.specs.LookUp.{lookUp, lookUpFrom}
-use Rattle.serials.proofs.Examples.{bytes}
 use Rattle.lines.specs.declared.Fault.the-variants.{BadCharacter, BadLength, NoLineFeed, Repeated, PastLast}
 use Rattle.lines.specs.Lines.{lines}
 use Rattle.lines.specs.Faults.{lineNumber, firstFault}
 use Rattle.roster.specs.declared.Reading.the-variants.{Slots, Refused}
 use Rattle.roster.specs.Text.{rosterText, endsFrom, lineEnds}
-use Rattle.roster.specs.Calls.{readOf, readAnswer, asLine}
+use Rattle.roster.specs.Calls.{readOf, readAnswer}
 
 -- an empty text is a roster of no slots
 pub empty : readAnswer [] ≡ readOf (Slots 0)
 unfolding readAnswer lines firstFault
 empty = refl
-
--- no line stands after the last line feed
-pub no-further-line : lines (bytes "A\n") ≡ asLine (bytes "A") ∷ []
-unfolding lines
-no-further-line = refl
 
 pub two-slots : readAnswer (bytes "11\n1\n") ≡ readOf (Slots 2)
 unfolding readAnswer lines firstFault lineNumber lookUpFrom

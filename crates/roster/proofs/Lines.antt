@@ -12,6 +12,7 @@ use lib.ListN.{length, getD}
 use Rattle.base.specs.Choice.{choose}
 use Rattle.serials.specs.Serials.{serials, serialsFrom}
 use Rattle.lines.specs.Lines.{Line, lineFeed, begun, lines, isCharacter}
+use Rattle.lines.proofs.Lines.{Unfed, line-ends}
 use Rattle.lines.specs.FirstFault.{serialsOf, noLine}
 use Rattle.roster.specs.Text.{rosterText, endsFrom, lineEnds}
 use Rattle.roster.specs.Calls.{asLine}
@@ -49,16 +50,15 @@ serials-of-lines (c ∷ t) = go (eqb c lineFeed) (serials-of-lines t)
 no-line-feed : (c : ℕ) → isCharacter c ≡ true → eqb c lineFeed ≡ false
 no-line-feed c e = ne-eqb c lineFeed (λ is. false≢true (ap isCharacter (sym is) ∙ e))
 
-first-line : (s t : List ℕ) → ((i : ℕ) → i < length s → isCharacter (getD s i 0) ≡ true) → lines (s ++ (lineFeed ∷ t)) ≡ asLine s ∷ lines t
-unfolding lines
-first-line [] t good = refl
-first-line (c ∷ s) t good = rw (no-line-feed c (good 0 (zero-lt-suc (length s))), first-line s t (λ i h. good (suc i) (suc-le-suc h)))
+unfed : (s : List ℕ) → ((i : ℕ) → i < length s → isCharacter (getD s i 0) ≡ true) → Unfed s
+unfed [] good = tt
+unfed (c ∷ s) good = (no-line-feed c (good 0 (zero-lt-suc (length s))), unfed s (λ i h. good (suc i) (suc-le-suc h)))
 
 pub lines-of-text : (ss : List (List ℕ)) → ((k : ℕ) → k < length ss → Serial (getD ss k [])) → lines (rosterText ss) ≡ map asLine ss
 unfolding rosterText lines
 lines-of-text [] good = refl
 lines-of-text (s ∷ ss) good =
-    first-line s (rosterText ss) (good 0 (zero-lt-suc (length ss)) .characters)
+    line-ends s (rosterText ss) (unfed s (good 0 (zero-lt-suc (length ss)) .characters))
     ∙ ap (_∷_ (asLine s)) (lines-of-text ss (λ k h. good (suc k) (suc-le-suc h)))
 
 -- ---- a text whose lines are all ended

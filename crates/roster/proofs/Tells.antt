@@ -5,7 +5,7 @@ use mathlib.Core.Path.{_≡_, refl, sym, ap, _∙_, subst}
 use mathlib.Core.Logic.{_≢_, ⊎-elim}
 use mathlib.Core.Bool.{Bool, true, false}
 use mathlib.Core.List.{List, [], map}
-use Prim.Native.Nat.{ℕ, _<_}
+use Prim.Native.Nat.{ℕ, _≤_, _<_}
 use native.Mathlib.Omega.{arith}
 use borrow.Author.Tests.{ltb-true}
 use lib.Dec.{ltb}
@@ -22,7 +22,7 @@ use Rattle.lines.specs.Lines.{lines}
 use Rattle.lines.specs.Faults.{numberOf}
 use Rattle.lines.specs.FirstFault.{serialsOf, Faultless, FirstFault}
 use Rattle.lines.proofs.Faults.{not-zero}
-use Rattle.lines.proofs.FirstFault.{search-outcome, fine-faultless, first-fault}
+use Rattle.lines.proofs.FirstFault.{search-outcome, fine-faultless, first-fault, fault-most}
 use Rattle.roster.specs.declared.Reading.the-variants.{Slots}
 use Rattle.roster.specs.declared.Reading.the-variants as read
 use Rattle.roster.specs.declared.Written.the-variants.{Length, NoRoom}
@@ -38,7 +38,7 @@ use Rattle.roster.proofs.Apart.{not-35}
 abbrev number : Answer → ℕ
 number a = a .number
 
-abbrev value : Answer → ℕ
+abbrev pub value : Answer → ℕ
 value a = getD (a .values) 0 0
 
 -- ---- the reader's answers
@@ -52,6 +52,15 @@ module _ (text : List ℕ) where
   pub reading-refused-tells : (f : Fault) {line : ℕ} → readOf (read.Refused f line) ≡ readAnswer text → FirstFault (lines text) line (numberOf f)
   unfolding readAnswer
   reading-refused-tells f e = first-fault (lines text) (readOf (Slots (length (lines text)))) e (not-zero f)
+
+  pub accepted-roster : readAnswer text .number ≡ 0 → Roster (serials text (lineEnds text))
+  unfolding readAnswer
+  accepted-roster e = rw (serials-of-lines text) (is-roster (lines text) (fine-faultless (lines text) (readOf (Slots (length (lines text)))) e .0))
+
+  pub refused-line : readAnswer text .number ≢ 0 → value (readAnswer text) ≤ 258
+  unfolding readAnswer
+  refused-line n =
+      ⊎-elim (λ p. absurd (n (ap number (p .1)))) (λ p. rw (p .3) (fault-most (p .2))) (search-outcome (lines text) (readOf (Slots (length (lines text)))))
 
 -- ---- the writer's answers
 module _ (ss : List (List ℕ)) (room : ℕ) where

@@ -17,31 +17,13 @@ use Rattle.base.specs.Refusal.{Answer}
 use Rattle.base.proofs.Choice.{either-comm, below-or-not}
 use Rattle.lines.specs.Lines.{Line, lines, isCharacter, hasBad}
 use Rattle.lines.specs.Faults.{lineNumber, unlessFaulty, firstFault}
+use Rattle.lines.proofs.Lines.{Unfed, unfed-more, line-ends, line-stays}
 use Rattle.lines.proofs.Faults.{fine-length, fine-slot}
 use Rattle.roster.specs.Calls.{readAnswer}
 use Rattle.roster_answer.specs.Answer.{answerText}
 use Rattle.roster_answer.specs.Kept.{keptSize, firstOther, keptOf, kept}
 use Rattle.roster_answer.proofs.Told.{told-refused}
 use Rattle.roster_answer.proofs.Kept.{kept-short, other-twice}
-
--- ---- the first line of a text, by the bytes that begin it, none of them a line feed
-abbrev Unfed : List ℕ → Type 0
-Unfed [] = Unit {0}
-Unfed (c ∷ s) = (eqb c 10 ≡ false) × Unfed s
-
-unfed-more : (s : List ℕ) (c : ℕ) → Unfed s → eqb c 10 ≡ false → Unfed (s ++ (c ∷ []))
-unfed-more [] c h e = (e, tt)
-unfed-more (d ∷ s) c h e = (h .0, unfed-more s c (h .1) e)
-
-line-ends : (s t : List ℕ) → Unfed s → lines (s ++ (10 ∷ t)) ≡ record { serial = s; ended = true } ∷ lines t
-unfolding lines
-line-ends [] t h = refl
-line-ends (c ∷ s) t h = rw (h .0, line-ends s t (h .1))
-
-line-stays : (c : ℕ) (s : List ℕ) → Unfed (c ∷ s) → lines (c ∷ s) ≡ record { serial = c ∷ s; ended = false } ∷ []
-unfolding lines
-line-stays c [] h = rw (h .0)
-line-stays c (d ∷ s) h = rw (h .0, line-stays d s (h .1))
 
 -- ---- a line of more than 20 bytes
 either-swap : (a b c : Bool) → either a (either b c) ≡ either b (either a c)

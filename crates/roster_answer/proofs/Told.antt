@@ -5,11 +5,12 @@ use mathlib.Core.Logic.{_≢_}
 use mathlib.Core.List.{List, _++_, append-assoc}
 use Prim.Native.Nat.{ℕ, zero, suc}
 use lib.ListN.{getD}
+use Rattle.serials.specs.Bytes.{bytes}
 use Rattle.serials.specs.declared.Found.{Found}
 use Rattle.serials.specs.declared.Found.the-variants.{Slot, Nowhere}
 use Rattle.lines.specs.declared.Fault.{Fault}
 use Rattle.lines.specs.Faults.{numberOf}
-use Rattle.roster_answer.specs.Words.{bytes, decimal, reason, foundLine, refusedLine}
+use Rattle.roster_answer.specs.Words.{decimal, reason, foundLine, refusedLine}
 use Rattle.roster_answer.specs.Answer.{told, Begins}
 
 -- of a text that is refused, what is found doesn't matter

@@ -1,17 +1,12 @@
 -- The words that a fitter is answered with, as bytes.
 use Prim.Native.Nat.{ℕ, _+_, _/_, _%_}
-use Prim.Native.Char.{code}
 use Prim.Native.String.{String}
-use Prim.Native.String as text
 use mathlib.Core.List.{List, [], _∷_, _++_}
 use lib.Dec.{eqb, ltb}
 use Rattle.base.specs.Choice.{choose}
+use Rattle.serials.specs.Bytes.{bytes}
 use Rattle.serials.specs.declared.Found.{Found}
 use Rattle.serials.specs.declared.Found.the-variants.{Slot, Nowhere}
-
-abbrev pub bytes : String → List ℕ
-bytes text.[] = []
-bytes (text._∷_ c s) = code c ∷ bytes s
 
 -- the last digit of a number
 abbrev pub digit : ℕ → ℕ

@@ -4,18 +4,12 @@ use mathlib.Core.Path.{_≡_}
 use mathlib.Core.Logic.{_≢_}
 use mathlib.Core.List.{List, [], _∷_}
 use Prim.Native.Nat.{ℕ, zero, suc, _<_}
-use Prim.Native.Char.{code}
-use Prim.Native.String as string
 use native.Mathlib.Omega.{arith}
 use lib.ListN.{length, getD}
 use Rattle.serials.specs.declared.Found.the-variants.{Nowhere}
+use Rattle.serials.specs.Bytes.{bytes}
 use Rattle.serials.specs.LookUp.{lookUp}
 use Rattle.serials.proofs.LookUp.{other-length}
-
--- the bytes of a text
-abbrev pub bytes : string.String → List ℕ
-bytes string.[] = []
-bytes (string._∷_ c s) = code c ∷ bytes s
 
 -- of one slot
 by-length : (s asked : List ℕ) → length s ≢ length asked → lookUp (s ∷ []) asked ≡ Nowhere

@@ -1,3 +1,4 @@
+pub mod Bytes
 pub mod Serials
 pub mod LookUp
 pub mod Lowest

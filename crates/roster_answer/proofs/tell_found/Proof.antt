@@ -1,7 +1,7 @@
 -- `roster_answer::tell_found` meets its contract: each of its lines is that of the definition.
 -- Assumes nothing.
 use borrow.Author.Needs.{needs}
-use Rattle.roster_answer.specs.Words.{bytes}
+use Rattle.serials.specs.Bytes.{bytes}
 use Rattle.roster_answer.proofs.Begins.{begins-copied}
 use Rattle.roster_answer.proofs.Told.{told-slot, told-none}
 use Rattle.roster_answer.proofs.tell_found.Statement.{statement}
