@@ -1,4 +1,5 @@
--- What is kept of a text of any length: its first 5,418 bytes, which are 258 lines of 20 characters, and of the others the first that no serial has.
+-- What the program keeps: of a text of any length, as many bytes as 258 lines of 20 characters have, and of the others the first that no serial has; of the
+-- serial that it is asked for, one byte more than a serial has.
 use Prim.Native.Nat.{ℕ, _+_, _*_, _≤_}
 use mathlib.Core.Path.{_≡_}
 use mathlib.Core.Bool.{Bool, not}
