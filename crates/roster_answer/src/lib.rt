@@ -1,5 +1,4 @@
 // What a fitter who asks for a serial is answered: a line with its slot, with none, or with why the roster's text is refused.
-// A text of any length is taken in by pieces, and what is kept of it has room here.
 use lines::Fault;
 use lines::MOST;
 use roster::Reading;
@@ -7,92 +6,13 @@ use serials::Found;
 ghost use mathlib.Core.Path.{_≡_};
 ghost use Prim.Native.Nat.{_+_, _%_, _≤_};
 ghost use mathlib.Core.List.{_++_};
-ghost use lib.ListN.{length, take};
+ghost use lib.ListN.{length};
 ghost use Rattle.lines.specs.Faults.{numberOf};
 ghost use Rattle.roster_answer.specs.Words.{digit, decimal, foundLine, refusedLine};
 ghost use Rattle.roster_answer.specs.Answer.{answerText, Begins};
-ghost use Rattle.roster_answer.specs.Kept.{keptSize, heldSize, isTaken, Holds, AnswerHeldCall};
-
-// As many bytes as 258 lines of 20 characters have.
-const KEPT: usize = 258 * 21;
-
-// The bytes that are kept, and one more.
-pub const HELD: usize = KEPT + 1;
-
-// One byte more than a serial has.
-pub const ASKED: usize = 21;
 
 // The longest answer.
 pub const ANSWER: usize = 73;
-
-// Takes in more of a text. The first `count` bytes are held of it, and then as many as is returned; where those fill the
-// array, no byte that comes later is taken in.
-pub fn take_in(held: &mut [u8; HELD], count: usize, more: &[u8]) -> usize
-    ensures { λ r. ⌜ Holds (now (held .exit)) r (take count (now (held .entry)) ++ now (more .entry)) ⌝ }
-{
-    take_all(held, count, more)
-}
-
-fn take_all(held: &mut [u8], count: usize, more: &[u8]) -> usize
-    requires { ⌜ length (now held) ≡ heldSize ⌝ }
-    ensures { λ r. ⌜ Holds (now (held .exit)) r (take count (now (held .entry)) ++ now (more .entry)) ⌝ }
-{
-    let mut n = count_held(held, count);
-    let mut i = 0;
-    while i < more.len() {
-        let c = more[i];
-        if is_taken(n, c) {
-            held[n] = c;
-            n += 1;
-        }
-        i += 1;
-    }
-    n
-}
-
-// How many of the first `count` bytes are kept.
-fn count_held(held: &[u8], count: usize) -> usize
-    requires { ⌜ length (now held) ≡ heldSize ⌝ }
-    ensures { λ r. ⌜ Holds (now (held .entry)) r (take count (now (held .entry))) ⌝ }
-{
-    if count <= KEPT {
-        return count;
-    }
-    if is_taken(KEPT, held[KEPT]) {
-        return HELD;
-    }
-    KEPT
-}
-
-// Whether a byte is taken in after n others.
-fn is_taken(n: usize, c: u8) -> bool
-    ensures { λ r. ⌜ r ≡ isTaken keptSize n c ⌝ }
-{
-    if n < KEPT {
-        return true;
-    }
-    if n != KEPT {
-        return false;
-    }
-    !lines::is_character(c)
-}
-
-// Answers from the bytes that are held of a text and of the asked serial.
-pub fn answer_held(
-    held: &[u8; HELD],
-    count: usize,
-    asked: &[u8; ASKED],
-    length: usize,
-    out: &mut [u8; ANSWER],
-) -> usize
-    ensures { λ r. ⌜ AnswerHeldCall (now (held .entry)) count (now (asked .entry)) length (now (out .entry)) r (now (out .exit)) ⌝ }
-{
-    answer(
-        serials::part(held, 0, count),
-        serials::part(asked, 0, length),
-        out,
-    )
-}
 
 // Answers whether the roster that a text holds has the asked serial. The output has room for every answer.
 pub fn answer(text: &[u8], asked: &[u8], out: &mut [u8; ANSWER]) -> usize

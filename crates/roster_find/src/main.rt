@@ -3,8 +3,8 @@ use libc::STDERR_FILENO;
 use libc::STDIN_FILENO;
 use libc::STDOUT_FILENO;
 use roster_answer::ANSWER;
-use roster_answer::ASKED;
-use roster_answer::HELD;
+use roster_buffers::ASKED;
+use roster_buffers::HELD;
 
 // How many bytes are held of the roster.
 enum Roster {
@@ -28,7 +28,7 @@ fn main() {
     let mut asked = [0u8; ASKED];
     let length = argument(&mut asked);
     let mut output = [0u8; ANSWER];
-    let size = roster_answer::answer_held(&held, count, &asked, length, &mut output);
+    let size = roster_buffers::answer_held(&held, count, &asked, length, &mut output);
     if !io::write_all(STDOUT_FILENO, &output[..size]) {
         // A program in Rattle has no exit status to say it by.
         io::write_all(
@@ -63,7 +63,7 @@ fn read_roster(held: &mut [u8; HELD]) -> Roster {
             return Roster::Held(count);
         }
         let more = io::count(got, &chunk);
-        count = roster_answer::take_in(held, count, &chunk[..more]);
+        count = roster_buffers::take_in(held, count, &chunk[..more]);
         if count == HELD {
             return Roster::Held(count);
         }

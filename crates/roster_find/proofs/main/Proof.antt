@@ -1,4 +1,4 @@
--- `roster_find::main` is safe: what `roster_answer::answer_held` returns counts bytes of the output.
+-- `roster_find::main` is safe: what `roster_buffers::answer_held` returns counts bytes of the output.
 -- Assumes nothing.
 use mathlib.Core.Path.{sym}
 use lib.Seq.{length-take-le}

@@ -10,10 +10,10 @@ use native.Mathlib.Omega.{arith}
 use borrow.Author.Needs.{needs}
 use lib.ListN.{length, getD, take, length-set}
 use lib.Seq.{take-suc, take-all}
-use Rattle.roster_answer.specs.Kept.{heldSize, Holds}
-use Rattle.roster_answer.proofs.Kept.{holds-taken, holds-left, taken-room}
-use Rattle.roster_answer.proofs.take_all.Statement.{statement}
-use Rattle.roster_answer.proofs.take_all.Tie as tie
+use Rattle.roster_buffers.specs.Kept.{heldSize, Holds}
+use Rattle.roster_buffers.proofs.Kept.{holds-taken, holds-left, taken-room}
+use Rattle.roster_buffers.proofs.take_all.Statement.{statement}
+use Rattle.roster_buffers.proofs.take_all.Tie as tie
 
 abbrev Inv-loop : tie.InvT-loop
 Inv-loop held₀ count more n₀ i₀ held n i = (i ≤ length more) × (length held ≡ heldSize) × Holds held n (take count held₀ ++ take i more)

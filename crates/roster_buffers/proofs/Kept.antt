@@ -14,7 +14,7 @@ use lib.Seq.{take-all, length-take-le, take-suc, take-suc-set, set-getD}
 use Rattle.base.specs.Choice.{choose}
 use Rattle.base.proofs.Choice.{below-or-not}
 use Rattle.lines.specs.Lines.{isCharacter}
-use Rattle.roster_answer.specs.Kept.{keptSize, heldSize, firstOther, keptOf, kept, isTaken, Holds}
+use Rattle.roster_buffers.specs.Kept.{keptSize, heldSize, firstOther, keptOf, kept, isTaken, Holds}
 
 -- ---- the first byte that no serial has
 other-once : (a b : List ℕ) → firstOther (firstOther a ++ b) ≡ firstOther (a ++ b)

@@ -20,10 +20,10 @@ use Rattle.lines.specs.Faults.{lineNumber, unlessFaulty, firstFault}
 use Rattle.lines.proofs.Lines.{Unfed, unfed-more, line-ends, line-stays}
 use Rattle.lines.proofs.Faults.{fine-length, fine-slot}
 use Rattle.roster.specs.Calls.{readAnswer}
 use Rattle.roster_answer.specs.Answer.{answerText}
-use Rattle.roster_answer.specs.Kept.{keptSize, firstOther, keptOf, kept}
+use Rattle.roster_buffers.specs.Kept.{keptSize, firstOther, keptOf, kept}
 use Rattle.roster_answer.proofs.Told.{told-refused}
-use Rattle.roster_answer.proofs.Kept.{kept-short, other-twice}
+use Rattle.roster_buffers.proofs.Kept.{kept-short, other-twice}
 
 -- ---- a line of more than 20 bytes
 either-swap : (a b c : Bool) → either a (either b c) ≡ either b (either a c)

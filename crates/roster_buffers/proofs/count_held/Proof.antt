@@ -3,9 +3,9 @@
 use mathlib.Core.Path.{sym, _∙_}
 use native.Mathlib.Omega.{arith}
 use borrow.Author.Needs.{needs}
-use Rattle.roster_answer.proofs.Kept.{holds-short, holds-last, holds-others}
-use Rattle.roster_answer.proofs.count_held.Statement.{statement}
-use Rattle.roster_answer.proofs.count_held.Tie as tie
+use Rattle.roster_buffers.proofs.Kept.{holds-short, holds-last, holds-others}
+use Rattle.roster_buffers.proofs.count_held.Statement.{statement}
+use Rattle.roster_buffers.proofs.count_held.Tie as tie
 
 returns : tie.Need-returns
 returns c =

@@ -2,9 +2,9 @@
 -- Assumes nothing.
 use native.Mathlib.Omega.{arith}
 use borrow.Author.Needs.{needs}
-use Rattle.roster_answer.proofs.Held.{held-answered}
-use Rattle.roster_answer.proofs.answer_held.Statement.{statement}
-use Rattle.roster_answer.proofs.answer_held.Tie as tie
+use Rattle.roster_buffers.proofs.Held.{held-answered}
+use Rattle.roster_buffers.proofs.answer_held.Statement.{statement}
+use Rattle.roster_buffers.proofs.answer_held.Tie as tie
 
 part-requires : tie.Need-part-requires
 part-requires c κs = search needs

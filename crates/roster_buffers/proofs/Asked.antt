@@ -16,9 +16,9 @@ use Rattle.roster.specs.Text.{lineEnds}
 use Rattle.roster.specs.Calls.{readAnswer}
 use Rattle.roster.proofs.Roster.{long-nowhere}
 use Rattle.roster.proofs.Tells.{accepted-roster}
 use Rattle.roster_answer.specs.Answer.{told, answerText}
-use Rattle.roster_answer.specs.Kept.{askedSize}
+use Rattle.roster_buffers.specs.Kept.{askedSize}
 use Rattle.roster_answer.proofs.Told.{told-refused}
 
 nowhere : (text asked : List ℕ) → readAnswer text .number ≡ 0 → 20 < length asked → lookUp (serials text (lineEnds text)) asked ≡ Nowhere
 nowhere text asked e h = long-nowhere (accepted-roster text e) asked h

@@ -3,9 +3,9 @@
 use native.Mathlib.Omega.{arith}
 use borrow.Author.Needs.{needs}
 use borrow.Author.Tests.{lt-ltb, le-ltb, eq-eqb, ne-eqb}
-use Rattle.roster_answer.specs.Kept.{keptSize}
-use Rattle.roster_answer.proofs.is_taken.Statement.{statement}
-use Rattle.roster_answer.proofs.is_taken.Tie as tie
+use Rattle.roster_buffers.specs.Kept.{keptSize}
+use Rattle.roster_buffers.proofs.is_taken.Statement.{statement}
+use Rattle.roster_buffers.proofs.is_taken.Tie as tie
 
 returns : tie.Need-returns
 returns c = rw (lt-ltb (c .before .args .n) keptSize (omega arith))

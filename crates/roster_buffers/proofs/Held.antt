@@ -6,10 +6,10 @@ use Prim.Native.Nat.{ℕ, _-_}
 use native.Mathlib.Nat.{sub-zero}
 use native.Mathlib.Omega.{arith}
 use lib.ListN.{length, take, length-append}
 use Rattle.roster_answer.specs.Answer.{answerText, Begins}
-use Rattle.roster_answer.specs.Kept.{heldSize, askedSize, kept, AnswerHeldCall}
-use Rattle.roster_answer.proofs.Enough.{kept-answer}
-use Rattle.roster_answer.proofs.Asked.{asked-enough}
+use Rattle.roster_buffers.specs.Kept.{heldSize, askedSize, kept, AnswerHeldCall}
+use Rattle.roster_buffers.proofs.Enough.{kept-answer}
+use Rattle.roster_buffers.proofs.Asked.{asked-enough}
 
 pub held-answered : {held asked before after t a : List ℕ} {n k r : ℕ} → (length held ≡ heldSize) × (length asked ≡ askedSize) → t ≡ take (n - 0) held
     → a ≡ take (k - 0) asked → Begins (answerText t a) before r after → AnswerHeldCall held n asked k before r after

@@ -1,0 +1,4 @@
+pub mod Kept
+pub mod Enough
+pub mod Asked
+pub mod Held
