@@ -19,20 +19,25 @@ pub digits-most : (n : ℕ) → length (decimal n) ≤ 3
 unfolding decimal
 digits-most n = go (ltb n 10) (ltb n 100)
   where
-    go : (a b : Bool) → length (choose a (digit n ∷ []) (choose b (digit (n / 10) ∷ digit n ∷ []) (digit (n / 100) ∷ digit (n / 10) ∷ digit n ∷ []))) ≤ 3
+    go : (a b : Bool)
+        → length (choose a (digit n ∷ []) (choose b (digit (n / 10) ∷ digit n ∷ []) (digit (n / 100) ∷ digit (n / 10) ∷ digit n ∷ []))) ≤ 3
     go true b = omega arith
     go false true = omega arith
     go false false = omega arith
 
 pub begins-stored : {new : List ℕ} (values out : List ℕ) → new ≡ values → length values ≤ length out → Begins new out (length values) (sets out 0 values)
 begins-stored values out is fits =
-    record { count = ap length (sym is); output = rw (is, sets-eq values out 0 (omega arith)) (ap (λ (n : ℕ). values ++ drop n out) (zero-add (length values))) }
+    record {
+      count = ap length (sym is);
+      output = rw (is, sets-eq values out 0 (omega arith)) (ap (λ (n : ℕ). values ++ drop n out) (zero-add (length values)));
+    }
 
 pub begins-copied : (new : List ℕ) {out after : List ℕ} {r : ℕ} → r ≡ length new → after ≡ take (length new) new ++ drop (length new) out → Begins new out r after
 begins-copied new e is = record { count = e; output = rw (take-all (length new) new (omega arith)) at is }
 
 -- new bytes that follow others, in the part of the buffer after those
-pub begins-then : {a b out mid part : List ℕ} {m n : ℕ} → Begins a out m mid → Begins b (take (length mid - m) (drop m mid)) n part → Begins (a ++ b) out (m + n) (putMid m (length mid - m) mid part)
+pub begins-then : {a b out mid part : List ℕ} {m n : ℕ} → Begins a out m mid → Begins b (take (length mid - m) (drop m mid)) n part
+    → Begins (a ++ b) out (m + n) (putMid m (length mid - m) mid part)
 begins-then {a} {b} {out} {mid} {part} {m} {n} first next =
     let front : take m mid ≡ a = ap (take m) (first .output) ∙ take-at a (drop (length a) out) m (sym (first .count)) in
     let rest : take (length mid - m) (drop m mid) ≡ drop (length a) out =

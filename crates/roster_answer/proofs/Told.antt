@@ -19,13 +19,15 @@ told-refused zero values found n = absurd (n refl)
 told-refused (suc k) values found n = refl
 
 module _ {out after : List ℕ} {r : ℕ} where
-  pub told-slot : {found : Found} (k : ℕ) → found ≡ Slot k → Begins ((bytes "slot " ++ decimal k) ++ bytes "\n") out r after → Begins (foundLine found) out r after
+  pub told-slot : {found : Found} (k : ℕ) → found ≡ Slot k
+      → Begins ((bytes "slot " ++ decimal k) ++ bytes "\n") out r after → Begins (foundLine found) out r after
   told-slot k e call = rw e (rw append-assoc at call)
 
   pub told-none : {found : Found} → found ≡ Nowhere → Begins (bytes "none\n") out r after → Begins (foundLine found) out r after
   told-none e call = rw e call
 
   pub told-fault : {fault : Fault} (f : Fault) (line : ℕ) → fault ≡ f
-      → Begins (((bytes "refused " ++ (decimal (numberOf f) ++ bytes " line ")) ++ decimal line) ++ (bytes ": " ++ (bytes (reason (numberOf f)) ++ bytes "\n"))) out r after
+      → Begins (((bytes "refused " ++ (decimal (numberOf f) ++ bytes " line ")) ++ decimal line) ++ (bytes ": " ++ (bytes (reason (numberOf f)) ++ bytes "\n")))
+      out r after
       → Begins (refusedLine (numberOf fault) line) out r after
   told-fault f line e call = rw e (simp append-assoc at call)

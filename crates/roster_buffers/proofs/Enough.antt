@@ -1,5 +1,6 @@
--- What is kept of a text is answered as the text is. A line that is accepted takes at most 21 bytes, and 257 lines are, so that a text of more than 5,418
--- bytes is refused; the line that refuses it either ends within them or is too long, and then its first byte that no serial has tells 30 from 31.
+-- What is kept of a text is answered as the text is. A line that is accepted takes at most 21 bytes, and 257 lines are, so that a text of more than
+-- 5,418 bytes is refused; its faulty line either ends within them or is too long, and then its first byte that no serial has tells 30 from 31. By
+-- induction on the text.
 -- Assumes nothing.
 use mathlib.Core.Path.{_≡_, refl, sym, ap, _∙_}
 use mathlib.Core.Logic.{_≢_, ⊎-elim}
@@ -52,7 +53,8 @@ abbrev long : List (List ℕ) → Bool → Answer
 long before bad = record { number = choose bad 30 31; values = suc (length before) ∷ [] }
 
 module _ (before : List (List ℕ)) (fine : Answer) where
-  long-line : (s : List ℕ) (ended : Bool) (ls : List Line) → 20 < length s → firstFault before (record { serial = s; ended = ended } ∷ ls) fine ≡ long before (hasBad s)
+  long-line : (s : List ℕ) (ended : Bool) (ls : List Line) → 20 < length s
+      → firstFault before (record { serial = s; ended = ended } ∷ ls) fine ≡ long before (hasBad s)
   unfolding firstFault lineNumber
   long-line s ended ls h = rw (lt-ltb 20 (length s) h, either-comm (eqb (length s) 0) true) (go (hasBad s))
     where
@@ -60,13 +62,15 @@ module _ (before : List (List ℕ)) (fine : Answer) where
       go true = refl
       go false = refl
 
-  overlong : (s t : List ℕ) → Unfed s → 20 < length s → firstFault before (lines (s ++ t)) fine ≡ long before (either (spoilt (firstOther t)) (hasBad s))
+  abbrev Over : List ℕ → List ℕ → Type 0
+  Over s t = firstFault before (lines (s ++ t)) fine ≡ long before (either (spoilt (firstOther t)) (hasBad s))
+
+  overlong : (s t : List ℕ) → Unfed s → 20 < length s → Over s t
   overlong [] [] u h = absurd (not-suc-le-zero h)
   overlong (c ∷ s) [] u h = rw (append-nil (c ∷ s), line-stays c s u) (long-line (c ∷ s) false [] h)
   overlong s (c ∷ t) u h = go (overlong (s ++ (c ∷ [])) t) (eqb c 10) refl
     where
-      go : (Unfed (s ++ (c ∷ [])) → 20 < length (s ++ (c ∷ [])) → firstFault before (lines ((s ++ (c ∷ [])) ++ t)) fine ≡ long before (either (spoilt (firstOther t)) (hasBad (s ++ (c ∷ [])))))
-          → (b : Bool) → eqb c 10 ≡ b → firstFault before (lines (s ++ (c ∷ t))) fine ≡ long before (either (spoilt (firstOther (c ∷ t))) (hasBad s))
+      go : (Unfed (s ++ (c ∷ [])) → 20 < length (s ++ (c ∷ [])) → Over (s ++ (c ∷ [])) t) → (b : Bool) → eqb c 10 ≡ b → Over s (c ∷ t)
       go later true e = rw (eqb-true c 10 e, line-ends s t u) (long-line s true (lines t) h)
       go later false e =
           rw (← append-snoc s c t, ← spoilt-more s c t e) (later (unfed-more s c u e) (omega (arith, length-append s (c ∷ []))))
@@ -138,10 +142,9 @@ refused-answer t u asked r =
 
 kept-long : (t : List ℕ) → keptSize < length t → Refused (readAnswer (kept t)) (readAnswer t)
 unfolding readAnswer kept
-kept-long t h = kept-refused (record { number = 0; values = length (lines (keptOf keptSize t)) ∷ [] }) (record { number = 0; values = length (lines t) ∷ [] }) [] [] t keptSize record { unfed = tt; few = omega arith; enough = omega arith; past = h }
+kept-long t h = kept-refused _ _ [] [] t keptSize record { unfed = tt; few = omega arith; enough = omega arith; past = h }
 
 pub kept-answer : (t asked : List ℕ) → answerText (kept t) asked ≡ answerText t asked
-kept-answer t asked = ⊎-elim long-text (λ h. ap (λ (l : List ℕ). answerText l asked) (kept-short t h)) (below-or-not keptSize (length t))
-  where
-    long-text : keptSize < length t → answerText (kept t) asked ≡ answerText t asked
-    long-text h = refused-answer (kept t) t asked (kept-long t h)
+kept-answer t asked =
+    ⊎-elim (λ h. refused-answer (kept t) t asked (kept-long t h)) (λ h. ap (λ (l : List ℕ). answerText l asked) (kept-short t h))
+    (below-or-not keptSize (length t))

@@ -40,7 +40,8 @@ returns : tie.Need-returns
 returns c =
     let a = c .before .before .before .before .before .before .before .before .before .before .before .args in
     let is = c .before .before .before .before .before .slots .given in
-    rw (slots-found (c .before .before .before .before .before .before .before .read .ensures) (is .0 .0) (is .1) (a .asked .now), ← c .before .before .find .ensures) (c .tell-found .ensures)
+    let read = c .before .before .before .before .before .before .before .read in
+    rw (slots-found (read .ensures) (is .0 .0) (is .1) (a .asked .now), ← c .before .before .find .ensures) (c .tell-found .ensures)
 
 returns-2 : tie.Need-returns-2
 returns-2 c =

@@ -23,7 +23,8 @@ put-decimal-requires c κs = search needs
 
 add-result : tie.Need-add-result
 add-result c =
-    omega (arith, digits-most (c .before .before .before .before .before .before .before .before .before .before .args .number), c .before .before .put-decimal .ensures .count)
+    let a = c .before .before .before .before .before .before .before .before .before .before .args in
+    omega (arith, digits-most (a .number), c .before .before .put-decimal .ensures .count)
 
 same-length : tie.Need-same-length
 same-length c = search needs

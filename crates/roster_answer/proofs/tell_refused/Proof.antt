@@ -73,7 +73,9 @@ same-length c = search needs
 returns : tie.Need-returns
 unfolding decimal
 returns c =
-    told-fault BadCharacter (c .before .before .before .before .before .before .before .before .before .args .line) (c .before .before .before .before .before .before .enum-told .given .1) (c .before .before .tell .ensures)
+    told-fault BadCharacter (c .before .before .before .before .before .before .before .before .before .args .line)
+    (c .before .before .before .before .before .before .enum-told .given .1)
+    (c .before .before .tell .ensures)
 
 same-length-2 : tie.Need-same-length-2
 same-length-2 c = search needs
@@ -81,7 +83,9 @@ same-length-2 c = search needs
 returns-2 : tie.Need-returns-2
 unfolding decimal
 returns-2 c =
-    told-fault BadLength (c .before .before .before .before .before .before .before .before .before .args .line) (c .before .before .before .before .before .before .enum-told2 .given .1) (c .before .before .tell2 .ensures)
+    told-fault BadLength (c .before .before .before .before .before .before .before .before .before .args .line)
+    (c .before .before .before .before .before .before .enum-told2 .given .1)
+    (c .before .before .tell2 .ensures)
 
 same-length-3 : tie.Need-same-length-3
 same-length-3 c = search needs
@@ -89,7 +93,9 @@ same-length-3 c = search needs
 returns-3 : tie.Need-returns-3
 unfolding decimal
 returns-3 c =
-    told-fault NoLineFeed (c .before .before .before .before .before .before .before .before .before .args .line) (c .before .before .before .before .before .before .enum-told3 .given .1) (c .before .before .tell3 .ensures)
+    told-fault NoLineFeed (c .before .before .before .before .before .before .before .before .before .args .line)
+    (c .before .before .before .before .before .before .enum-told3 .given .1)
+    (c .before .before .tell3 .ensures)
 
 same-length-4 : tie.Need-same-length-4
 same-length-4 c = search needs
@@ -97,7 +103,9 @@ same-length-4 c = search needs
 returns-4 : tie.Need-returns-4
 unfolding decimal
 returns-4 c =
-    told-fault Repeated (c .before .before .before .before .before .before .before .before .before .args .line) (c .before .before .before .before .before .before .enum-told4 .given .1) (c .before .before .tell4 .ensures)
+    told-fault Repeated (c .before .before .before .before .before .before .before .before .before .args .line)
+    (c .before .before .before .before .before .before .enum-told4 .given .1)
+    (c .before .before .tell4 .ensures)
 
 same-length-5 : tie.Need-same-length-5
 same-length-5 c = search needs
@@ -105,7 +113,9 @@ same-length-5 c = search needs
 returns-5 : tie.Need-returns-5
 unfolding decimal
 returns-5 c =
-    told-fault PastLast (c .before .before .before .before .before .before .before .before .before .args .line) (c .before .before .before .before .before .before .enum-told5 .given .1) (c .before .before .tell5 .ensures)
+    told-fault PastLast (c .before .before .before .before .before .before .before .before .before .args .line)
+    (c .before .before .before .before .before .before .enum-told5 .given .1)
+    (c .before .before .tell5 .ensures)
 
 pub tell-refused-spec : {M : Type 1} → statement M
 tell-refused-spec =
