@@ -104,6 +104,10 @@ pub enum Input<'a> {
     Closed,
 }
 
+fn words<'a>(arguments: &'a [&[u8]]) -> impl Iterator<Item = &'a OsStr> {
+    arguments.iter().map(|argument| OsStr::from_bytes(argument))
+}
+
 /// Runs the program with arguments.
 pub fn run_with(name: &str, arguments: &[&[u8]], input: Input) -> Ending {
     let mut command = match input {
@@ -113,7 +117,7 @@ pub fn run_with(name: &str, arguments: &[&[u8]], input: Input) -> Ending {
     if let Input::Closed = input {
         command.args(["-c", "exec \"$0\" \"$@\" <&-"]).arg(path(name));
     }
-    command.args(arguments.iter().map(|argument| OsStr::from_bytes(argument))).stdout(Stdio::piped()).stderr(Stdio::piped());
+    command.args(words(arguments)).stdout(Stdio::piped()).stderr(Stdio::piped());
     match input {
         Input::Pieces(pieces, pause) => {
             fed(spawn(name, command.stdin(Stdio::piped())), pieces.into_iter(), pause, |child| ending(name, child))
@@ -124,8 +128,8 @@ pub fn run_with(name: &str, arguments: &[&[u8]], input: Input) -> Ending {
 }
 
 /// Runs the program with its output going to a file.
-pub fn run_into_file(name: &str, input: File, file: File) -> Ending {
-    ending(name, spawn(name, Command::new(path(name)).stdin(input).stdout(file).stderr(Stdio::piped())))
+pub fn run_into_file(name: &str, arguments: &[&[u8]], input: File, file: File) -> Ending {
+    ending(name, spawn(name, Command::new(path(name)).args(words(arguments)).stdin(input).stdout(file).stderr(Stdio::piped())))
 }
 
 /// What becomes of the signal of a closed pipe: its default, or nothing, as some parents leave it to the programs they start.

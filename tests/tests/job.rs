@@ -117,7 +117,7 @@ const NOT_WHOLE: &str = "shelf_job: the answer could not be written whole\n";
 fn a_write_that_fails() {
     let full = File::options().write(true).open("/dev/full").expect("a device that is always full");
     let nothing = File::open("/dev/null").expect("an empty input");
-    let end = program::run_into_file(PROGRAM, nothing, full);
+    let end = program::run_into_file(PROGRAM, &[], nothing, full);
     assert!(end.status.success(), "{}", end.status);
     assert_eq!(end.errors, NOT_WHOLE);
 }
@@ -127,7 +127,7 @@ fn a_write_that_fails() {
 fn a_write_that_succeeds() {
     let null = File::options().write(true).open("/dev/null").expect("a device that takes everything");
     let nothing = File::open("/dev/null").expect("an empty input");
-    let end = program::run_into_file(PROGRAM, nothing, null);
+    let end = program::run_into_file(PROGRAM, &[], nothing, null);
     assert!(end.status.success(), "{}", end.status);
     assert_eq!(end.errors, "");
 }
