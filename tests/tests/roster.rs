@@ -290,25 +290,33 @@ fn rosters_of_each_size() {
     }
 }
 
-/// Each byte in each of some places: a line feed makes two lines of one.
-#[test]
-fn every_byte_in_a_serial() {
-    let mut random = Random::new(1);
-    for slots in [1, 2, 12, 256, 257] {
-        let serials = different(&mut random, slots);
+/// Serials with each byte in each of some places, and the line that has it.
+fn each_byte(seed: u64, sizes: &[usize], mut test: impl FnMut(&mut Random, &[Vec<u8>], usize, u8)) {
+    let mut random = Random::new(seed);
+    for &slots in sizes {
+        let mut serials = different(&mut random, slots);
         for line in three(slots) {
             for place in three(serials[line].len()) {
+                let there = serials[line][place];
                 for byte in 0..=255 {
-                    let mut serials = serials.clone();
                     serials[line][place] = byte;
-                    let answer = read(&text(&serials));
-                    if byte != b'\n' && !CHARACTERS.contains(&byte) {
-                        assert_eq!(answer, Err((30, line + 1)));
-                    }
+                    test(&mut random, &serials, line + 1, byte);
                 }
+                serials[line][place] = there;
             }
         }
     }
+}
+
+/// A line feed makes two lines of one.
+#[test]
+fn every_byte_in_a_serial() {
+    each_byte(1, &[1, 2, 12, 256, 257], |_, serials, line, byte| {
+        let answer = read(&text(serials));
+        if byte != b'\n' && !CHARACTERS.contains(&byte) {
+            assert_eq!(answer, Err((30, line)));
+        }
+    });
 }
 
 #[test]
@@ -488,22 +496,12 @@ fn every_serial_in_each_room() {
 
 #[test]
 fn every_byte_in_a_written_serial() {
-    let mut random = Random::new(7);
-    for slots in [1, 12, 257] {
-        let serials = different(&mut random, slots);
-        for line in three(slots) {
-            for place in three(serials[line].len()) {
-                for byte in 0..=255 {
-                    let mut serials = serials.clone();
-                    serials[line][place] = byte;
-                    let answer = lend_between(&mut random, &serials).write(5397);
-                    if !CHARACTERS.contains(&byte) {
-                        assert_eq!(answer, Err((30, line + 1)));
-                    }
-                }
-            }
+    each_byte(7, &[1, 12, 257], |random, serials, line, byte| {
+        let answer = lend_between(random, serials).write(5397);
+        if !CHARACTERS.contains(&byte) {
+            assert_eq!(answer, Err((30, line)));
         }
-    }
+    });
 }
 
 #[test]
