@@ -5,11 +5,10 @@ use lines::Judged;
 use lines::MOST;
 ghost use mathlib.Core.Path.{_≡_};
 ghost use Prim.Native.Nat.{_≤_};
-ghost use lib.ListN.{length, drop};
-ghost use mathlib.Core.List.{_++_};
+ghost use lib.ListN.{length};
 ghost use Rattle.serials.specs.Serials.{serials};
 ghost use Rattle.roster.specs.Text.{rosterText};
-ghost use Rattle.roster.specs.Calls.{writtenOf, judgeAnswer, ReadCall, WriteCall};
+ghost use Rattle.roster.specs.Calls.{writtenOf, judgeAnswer, begunWith, ReadCall, WriteCall};
 
 const LINE_FEED: u8 = 10;
 
@@ -26,7 +25,8 @@ pub enum Written {
     NoRoom,
 }
 
-// Reads a roster. Its serials are those that the text and the ends of its lines lend; past its slots the ends stay, and where the text is refused all do.
+// Reads a roster. Its serials are those that the text and the ends of its lines lend. Past its slots the ends stay,
+// and where the text is refused all do.
 pub fn read(text: &[u8], ends: &mut [usize; MOST]) -> Reading
     ensures { λ r. ⌜ ReadCall (now (text .entry)) (now (ends .entry)) r (now (ends .exit)) ⌝ }
 {
@@ -83,7 +83,7 @@ fn judge_all(chars: &[u8], ends: &[usize]) -> Written
 
 fn put_all(chars: &[u8], ends: &[usize], out: &mut [u8])
     requires { ⌜ length (rosterText (serials (now chars) (now ends))) ≤ length (now out) ⌝ }
-    ensures { λ _. ⌜ now (out .exit) ≡ rosterText (serials (now (chars .entry)) (now (ends .entry))) ++ drop (length (rosterText (serials (now (chars .entry)) (now (ends .entry))))) (now (out .entry)) ⌝ }
+    ensures { λ _. ⌜ now (out .exit) ≡ begunWith (rosterText (serials (now (chars .entry)) (now (ends .entry)))) (now (out .entry)) ⌝ }
 {
     let mut at = 0;
     let mut slot = 0;
