@@ -4,7 +4,7 @@ use mathlib.Core.Path.{_≡_, refl}
 use mathlib.Core.Bool.{true, false}
 use mathlib.Core.List.{[], _∷_}
 use Rattle.serials.specs.Bytes.{bytes}
-use Rattle.lines.specs.Lines.{Line, lines}
+use Rattle.lines.specs.Lines.{lines}
 
 -- no line stands after the last line feed
 pub no-further-line : lines (bytes "A\n") ≡ record { serial = bytes "A"; ended = true } ∷ []

@@ -1,7 +1,7 @@
 -- The laws of the search for the first fault: a line that fails a test ends it, one that passes leaves it to the others. And what a line that passes
 -- has, beyond its tests' words.
 -- Assumes nothing.
-use mathlib.Core.Path.{_≡_, refl, sym, ap, _∙_}
+use mathlib.Core.Path.{_≡_, refl, sym}
 use mathlib.Core.Logic.{_≢_}
 use mathlib.Core.Bool.{Bool}
 use mathlib.Core.List.{List, [], _∷_, _++_}

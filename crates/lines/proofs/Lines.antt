@@ -1,13 +1,13 @@
 -- The laws of lines: a test for bad characters may go on from any place; and the first line of a text, by the bytes that begin it.
 -- Assumes nothing.
-use mathlib.Core.Path.{_≡_, refl, sym, ap, _∙_}
-use mathlib.Core.Bool.{Bool, true, false}
+use mathlib.Core.Path.{_≡_, refl}
+use mathlib.Core.Bool.{true, false}
 use mathlib.Core.List.{List, [], _∷_, _++_}
-use Prim.Native.Nat.{ℕ, zero, suc, _<_}
-use lib.Dec.{eqb, ltb}
-use lib.ListN.{length, getD, take, drop}
+use Prim.Native.Nat.{ℕ, suc, _<_}
+use lib.Dec.{eqb}
+use lib.ListN.{length, getD, drop}
 use lib.Seq.{drop-cons}
-use Rattle.lines.specs.Lines.{Line, lineFeed, lines, isCharacter, hasBad}
+use Rattle.lines.specs.Lines.{lineFeed, lines, isCharacter, hasBad}
 
 -- ---- a bad character
 module _ (s : List ℕ) (i : ℕ) (h : i < length s) where

@@ -9,7 +9,7 @@ use Prim.Native.Nat.{ℕ, zero, suc, _+_, _≤_, _<_, compare·suc-suc}
 use native.Mathlib.Omega.{arith}
 use native.Mathlib.Numerals.{add-one}
 use borrow.Author.Tests.{lt-ltb, le-ltb, ne-eqb}
-use lib.ListN.{length, getD, take, drop, length-append, length-take, set, drop-of-length-le}
+use lib.ListN.{length, getD, take, length-append, length-take, set, drop-of-length-le}
 use lib.Seq.{take-all, length-take-le, take-suc, take-suc-set, set-getD}
 use Rattle.base.specs.Choice.{choose}
 use Rattle.base.proofs.Choice.{below-or-not}
@@ -35,23 +35,12 @@ other-full (c ∷ a) b h = go (other-full a b) (isCharacter c) h
     go later true h = later h
     go later false h = refl
 
-other-most : (a : List ℕ) → length (firstOther a) ≤ 1
-other-most [] = omega arith
-other-most (c ∷ a) = go (other-most a) (isCharacter c)
-  where
-    go : length (firstOther a) ≤ 1 → (t : Bool) → length (choose t (firstOther a) (c ∷ [])) ≤ 1
-    go later true = later
-    go later false = omega arith
-
 pub other-twice : (a : List ℕ) → firstOther (firstOther a) ≡ firstOther a
 other-twice a = simp append-nil at (other-once a [])
 
 -- ---- what is kept where n bytes are
 keep-short : (n : ℕ) (t : List ℕ) → length t ≤ n → keptOf n t ≡ t
 keep-short n t h = rw (drop-of-length-le t h, take-all n t h) (append-nil t)
-
-pub keep-most : (n : ℕ) (t : List ℕ) → length (keptOf n t) ≤ suc n
-keep-most n t = simp (length-append, length-take) (omega (arith, other-most (drop n t)))
 
 keep-pieces : (n : ℕ) (a b : List ℕ) → keptOf n (keptOf n a ++ b) ≡ keptOf n (a ++ b)
 keep-pieces zero a b = other-once a b

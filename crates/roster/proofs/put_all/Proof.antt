@@ -10,8 +10,6 @@ use lib.Seq.{take-length}
 use Rattle.base.proofs.Tails.{tail}
 use Rattle.serials.specs.Serials.{serials}
 use Rattle.serials.proofs.Laws.{length-serials}
-use Rattle.roster.specs.Text.{rosterText}
-use Rattle.roster.specs.Calls.{begunWith}
 use Rattle.roster.proofs.PutTo.{PutTo, put-none, length-put, put-room, feed-room, put-more, put-all}
 use Rattle.roster.proofs.put_all.Statement.{statement}
 use Rattle.roster.proofs.put_all.Tie as tie

@@ -1,11 +1,11 @@
 -- `roster::read` meets its contract. The loop's invariant: the text is read up to `start`. The measure is what is left of it.
 -- Assumes nothing.
-use mathlib.Core.Path.{_≡_, refl, sym, ap, _∙_}
+use mathlib.Core.Path.{_≡_, sym, ap, _∙_}
 use Prim.Native.Nat.{_+_, _-_, _≤_, _<_}
 use native.Mathlib.Omega.{arith}
 use borrow.Author.Needs.{needs}
 use lib.Dec.{ltb}
-use lib.ListN.{length, take, drop, length-set}
+use lib.ListN.{length, take, drop}
 use lib.Seq.{length-take-le}
 use Rattle.serials.specs.Serials.{serials}
 use Rattle.lines.specs.Faults.{judgedNumber, lineNumber}
