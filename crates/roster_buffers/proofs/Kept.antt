@@ -1,7 +1,7 @@
 -- The laws of what is kept of a text: a text that is short enough is kept whole, it does not matter in which pieces a text comes, and once the last
 -- byte is there nothing more is kept. By induction on the bytes that are kept, then on those that come after.
 -- Assumes nothing.
-use mathlib.Core.Path.{_≡_, refl, sym, ap, _∙_}
+use mathlib.Core.Path.{_≡_, refl, sym, ap, ap₂, _∙_}
 use mathlib.Core.Logic.{⊎-elim}
 use mathlib.Core.Bool.{Bool, true, false, not, false≢true}
 use mathlib.Core.List.{List, [], _∷_, _++_, append-nil}
@@ -9,11 +9,12 @@ use Prim.Native.Nat.{ℕ, zero, suc, _+_, _≤_, _<_, compare·suc-suc}
 use native.Mathlib.Omega.{arith}
 use native.Mathlib.Numerals.{add-one}
 use borrow.Author.Tests.{lt-ltb, le-ltb, ne-eqb}
-use lib.ListN.{length, getD, take, length-append, length-take, set, drop-of-length-le}
-use lib.Seq.{take-all, length-take-le, take-suc, take-suc-set, set-getD}
+use lib.ListN.{length, getD, take, drop, take-append-drop, length-append, length-take, set, drop-of-length-le}
+use lib.Seq.{take-all, take-at, length-take-le, take-suc, take-suc-set, set-getD}
 use Rattle.base.specs.Choice.{choose}
 use Rattle.base.proofs.Choice.{below-or-not}
 use Rattle.lines.specs.Lines.{isCharacter}
+use Rattle.roster_answer.specs.Answer.{Begins}
 use Rattle.roster_buffers.specs.Kept.{keptSize, heldSize, firstOther, keptOf, kept, isTaken, Holds}
 
 -- ---- the first byte that no serial has
@@ -128,6 +129,15 @@ module _ (held : List ℕ) (size : length held ≡ heldSize) where
 
     pub holds-others : isTaken keptSize keptSize (getD held keptSize 0) ≡ false → Holds held keptSize (take n held)
     holds-others e = rw all (holds-left (getD held keptSize 0) (holds-short keptSize (omega arith)) e)
+
+-- a filled array as a buffer that begins with what is kept, and back
+pub holds-begins : {held before t : List ℕ} {n : ℕ} → Holds held n t → drop n held ≡ drop n before → Begins (kept t) before n held
+holds-begins {held} {before} {n = n} h rest =
+    record { count = h .count; output = sym (take-append-drop n held) ∙ ap₂ _++_ (h .bytes) (rest ∙ ap (λ (k : ℕ). drop k before) (h .count)) }
+
+pub begins-holds : {held before t : List ℕ} {n : ℕ} → Begins (kept t) before n held → Holds held n t
+begins-holds {before = before} {t} {n} call =
+    record { count = call .count; bytes = ap (take n) (call .output) ∙ take-at (kept t) (drop (length (kept t)) before) n (sym (call .count)) }
 
 pub taken-room : (n c : ℕ) → isTaken keptSize n c ≡ true → n < heldSize
 taken-room n c e = ⊎-elim (λ h. h) (λ h. absurd (false≢true (sym (out h) ∙ e))) (below-or-not n heldSize)

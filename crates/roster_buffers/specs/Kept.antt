@@ -40,9 +40,8 @@ pub record Holds (held : List ℕ) (n : ℕ) (t : List ℕ) : Type 0 where
   pub count : n ≡ length (kept t)
   pub bytes : take n held ≡ kept t
 
--- The contract over these buffers: whichever text's kept bytes the first n of `held` are, and whichever serial's first bytes the first k of `asked`
--- are, that text and that serial are answered, whole. What is returned counts bytes of the output.
+-- The contract over these buffers: the first n bytes of `held` and the first k of `asked` are answered. What is returned counts bytes of the output.
 pub record AnswerHeldCall (held : List ℕ) (n : ℕ) (asked : List ℕ) (k : ℕ) (before : List ℕ) (r : ℕ) (after : List ℕ) : Type 0 where
   pub sizes : (length held ≡ heldSize) × (length asked ≡ askedSize)
-  pub answered : (text serial : List ℕ) → Holds held n text → take k asked ≡ take askedSize serial → Begins (answerText text serial) before r after
+  pub answer : Begins (answerText (take n held) (take k asked)) before r after
   pub within : r ≤ length after

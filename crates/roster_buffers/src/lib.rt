@@ -4,7 +4,8 @@ use roster_answer::ANSWER;
 ghost use mathlib.Core.Path.{_≡_};
 ghost use mathlib.Core.List.{_++_};
 ghost use lib.ListN.{length, take};
-ghost use Rattle.roster_buffers.specs.Kept.{keptSize, heldSize, isTaken, Holds, AnswerHeldCall};
+ghost use Rattle.roster_answer.specs.Answer.{Begins};
+ghost use Rattle.roster_buffers.specs.Kept.{keptSize, heldSize, kept, isTaken, Holds, AnswerHeldCall};
 
 // As many bytes as 258 lines of 20 characters have.
 const KEPT: usize = 258 * 21;
@@ -18,14 +19,14 @@ pub const ASKED: usize = 21;
 // Takes in more of a text. The first `count` bytes are held of it, and then as many as is returned; where those fill the
 // array, no byte that comes later is taken in.
 pub fn take_in(held: &mut [u8; HELD], count: usize, more: &[u8]) -> usize
-    ensures { λ r. ⌜ Holds (now (held .exit)) r (take count (now (held .entry)) ++ now (more .entry)) ⌝ }
+    ensures { λ r. ⌜ Begins (kept (take count (now (held .entry)) ++ now (more .entry))) (now (held .entry)) r (now (held .exit)) ⌝ }
 {
     take_all(held, count, more)
 }
 
 fn take_all(held: &mut [u8], count: usize, more: &[u8]) -> usize
     requires { ⌜ length (now held) ≡ heldSize ⌝ }
-    ensures { λ r. ⌜ Holds (now (held .exit)) r (take count (now (held .entry)) ++ now (more .entry)) ⌝ }
+    ensures { λ r. ⌜ Begins (kept (take count (now (held .entry)) ++ now (more .entry))) (now (held .entry)) r (now (held .exit)) ⌝ }
 {
     let mut n = count_held(held, count);
     let mut i = 0;

@@ -1,4 +1,4 @@
--- `roster_answer::count_held` meets its contract: of all the array the last byte is kept if it is taken after the others.
+-- `roster_buffers::count_held` meets its contract: of all the array the last byte is kept if it is taken after the others.
 -- Assumes nothing.
 use mathlib.Core.Path.{sym, _∙_}
 use native.Mathlib.Omega.{arith}

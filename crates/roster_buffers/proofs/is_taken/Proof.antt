@@ -1,4 +1,4 @@
--- `roster_answer::is_taken` meets its contract: its tests are those of the definition.
+-- `roster_buffers::is_taken` meets its contract: its tests are those of the definition.
 -- Assumes nothing.
 use native.Mathlib.Omega.{arith}
 use borrow.Author.Needs.{needs}
