@@ -11,9 +11,11 @@ test:
 toolchain:
 	@command -v rt >/dev/null || { echo 'rt is missing: it is not on PATH' >&2; exit 2; }
 
-# The library for C, target/staticlib/libshelf.a; include/shelf.h is its header.
+# The library for C, below target/staticlib/: libshelf.a, and the shared library for each level of x86-64. include/shelf.h is
+# its header.
 lib: toolchain
 	rt staticlib shelf
+	levels/build
 
 # The job program, target/bin/shelf_job.
 job: toolchain
@@ -37,23 +39,40 @@ bench: lib
 	bench/linux
 	cd bench && cargo run --quiet --release --offline --locked
 
-# The header says the version. DESTDIR, if given, stands before PREFIX for a staged copy, and no file mentions it.
+# The header says the version. DESTDIR, if given, stands before PREFIX and LIBDIR for a staged copy, and no file mentions it.
+# LIBDIR has the libraries; the dynamic loader looks below its glibc-hwcaps/ for the processor's level first.
 VERSION := $(shell sed -n 's/^.define SHELF_VERSION "\(.*\)"$$/\1/p' include/shelf.h)
+SONAME := libshelf.so.$(firstword $(subst ., ,$(VERSION)))
+SHARED := libshelf.so.$(VERSION)
+LEVELS := . glibc-hwcaps/x86-64-v3 glibc-hwcaps/x86-64-v4
 PREFIX = /usr/local
+LIBDIR = $(PREFIX)/lib
 bindir = $(DESTDIR)$(PREFIX)/bin
-libdir = $(DESTDIR)$(PREFIX)/lib
+libdir = $(DESTDIR)$(LIBDIR)
 includedir = $(DESTDIR)$(PREFIX)/include
+
+# The loader's cache, where it may be written. A staged copy is no part of it.
+define cache
+	@[ -n '$(DESTDIR)' ] || PATH="$$PATH:/sbin" ldconfig 2>/dev/null || true
+endef
 
 install: lib job find
 	install -d '$(bindir)' '$(libdir)/pkgconfig' '$(includedir)'
 	install -m 755 target/bin/shelf_job target/bin/roster_find '$(bindir)'
 	install -m 644 target/staticlib/libshelf.a '$(libdir)'
+	for level in $(LEVELS); do \
+	    install -d '$(libdir)'/$$level && install -m 644 target/staticlib/$$level/$(SONAME) '$(libdir)'/$$level/$(SHARED) && \
+	    ln -sf $(SHARED) '$(libdir)'/$$level/$(SONAME) || exit 1; done
+	ln -sf $(SONAME) '$(libdir)/libshelf.so'
 	install -m 644 include/shelf.h '$(includedir)'
-	printf '%s\n' 'prefix=$(PREFIX)' 'libdir=$${prefix}/lib' 'includedir=$${prefix}/include' '' 'Name: shelf' \
+	printf '%s\n' 'prefix=$(PREFIX)' 'libdir=$(subst $(PREFIX),$${prefix},$(LIBDIR))' 'includedir=$${prefix}/include' '' 'Name: shelf' \
 	    'Description: RAID-6 stripes: encode, small writes, check, repair, rebuild' 'Version: $(VERSION)' \
 	    'Cflags: -I"$${includedir}"' 'Libs: -L"$${libdir}" -lshelf' >'$(libdir)/pkgconfig/shelf.pc'
 	chmod 644 '$(libdir)/pkgconfig/shelf.pc'
+	$(cache)
 
 # Folders stay: others may use them.
 uninstall:
-	rm -f '$(bindir)/shelf_job' '$(bindir)/roster_find' '$(libdir)/libshelf.a' '$(libdir)/pkgconfig/shelf.pc' '$(includedir)/shelf.h'
+	rm -f '$(bindir)/shelf_job' '$(bindir)/roster_find' '$(libdir)/libshelf.a' '$(libdir)/libshelf.so' '$(libdir)/pkgconfig/shelf.pc' '$(includedir)/shelf.h'
+	for level in $(LEVELS); do rm -f '$(libdir)'/$$level/$(SONAME) '$(libdir)'/$$level/$(SHARED); done
+	$(cache)

@@ -28,7 +28,8 @@
  * check lie outside of each other, or that nobody else uses the buffers meanwhile. Where one of these fails, nothing is
  * promised.
  *
- * Linking. The library calls memcpy and memset of C and nothing else; each of its calls may reach them.
+ * Linking. The library calls memcpy and memset of C and nothing else; each of its calls may reach them. The name of the shared
+ * library carries the ABI's number, which is the first part of this header's version: as long as it stays, calls are only added.
  */
 #ifndef SHELF_H
 #define SHELF_H
@@ -45,9 +46,9 @@ extern "C" {
 #endif
 
 /* This header's version, and its parts. */
-#define SHELF_VERSION "0.4.0"
+#define SHELF_VERSION "0.5.0"
 #define SHELF_VERSION_MAJOR 0
-#define SHELF_VERSION_MINOR 4
+#define SHELF_VERSION_MINOR 5
 #define SHELF_VERSION_PATCH 0
 
 /* The largest n and the largest b. */

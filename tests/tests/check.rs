@@ -5,7 +5,6 @@ use outside::random::Random;
 use outside::shapes::{BLOCKS, DISKS, FEW_DISKS, LARGE_BLOCKS};
 use outside::stripe::{self, LARGEST_BLOCK, MIXED};
 
-#[link(name = "shelf", kind = "static")]
 extern "C" {
     fn shelf_check(n: u64, b: u64, stripe: *const u8, stripe_len: usize, verdicts: *mut u16, count: usize, summary: *mut u16) -> u8;
 }

@@ -6,7 +6,6 @@ use outside::shapes::{BLOCKS, DISKS, FEW_DISKS, LARGE_BLOCKS};
 use outside::stripe::{self, LARGEST_BLOCK, NONE, P, Q};
 use outside::table::Table;
 
-#[link(name = "shelf", kind = "static")]
 extern "C" {
     fn shelf_encode(n: u64, b: u64, stripe: *mut u8, stripe_len: usize) -> u8;
     fn shelf_write(n: u64, b: u64, stripe: *mut u8, stripe_len: usize, disk: u64, offset: u64, bytes: *const u8, count: usize) -> u8;

@@ -6,7 +6,6 @@ use outside::shapes::{BLOCKS, DISKS, FEW_DISKS, LARGE_BLOCKS};
 use outside::stripe::{self, LARGEST_BLOCK, MIXED, UNKNOWN};
 use std::cell::Cell;
 
-#[link(name = "shelf", kind = "static")]
 extern "C" {
     fn shelf_repair(n: u64, b: u64, stripe: *mut u8, stripe_len: usize) -> u8;
 }
