@@ -1,4 +1,4 @@
-//! ISA-L's encoder, check and product of two bytes, where it is installed.
+//! ISA-L's encoders, checks and product of two bytes, where it is installed.
 
 use crate::library::Library;
 use crate::product::Product;
@@ -9,14 +9,27 @@ fn library() -> Option<Library> {
     Library::find(&[c"libisal.so.2", c"libisal.so"])
 }
 
-/// Both functions take the number of blocks with the parities, their length and their places; 0 is
-/// a pass.
+/// Takes the number of blocks with the parities, their length and their places; 0 is a pass.
 type Function = unsafe extern "C" fn(c_int, c_int, *mut *mut c_void) -> c_int;
 
+/// A function under its name in ISA-L.
 #[derive(Clone, Copy)]
+pub struct Named {
+    pub name: &'static str,
+    function: Function,
+}
+
+/// The functions written for SSE and for AVX2, and ISA-L's own choice for this processor. It has one check, for SSE.
+pub const GENERATE_SSE: &str = "pq_gen_sse";
+pub const GENERATE_AVX2: &str = "pq_gen_avx2";
+pub const GENERATE: &str = "pq_gen";
+pub const CHECK_SSE: &str = "pq_check_sse";
+pub const CHECK: &str = "pq_check";
+
+#[derive(Clone)]
 pub struct Isal {
-    generate: Function,
-    check: Function,
+    generators: Vec<Named>,
+    checks: Vec<Named>,
 }
 
 impl Isal {
@@ -25,34 +38,41 @@ impl Isal {
             return None;
         }
         let library = library()?;
-        Some(unsafe { Isal { generate: library.function(c"pq_gen_sse")?, check: library.function(c"pq_check_sse")? } })
+        let find = |name| Some(Named { name, function: unsafe { library.function(&std::ffi::CString::new(name).ok()?)? } });
+        let generators = [GENERATE_SSE, GENERATE_AVX2, GENERATE].into_iter();
+        let generators = generators.filter(|&name| name != GENERATE_AVX2 || is_x86_feature_detected!("avx2"));
+        Some(Isal {
+            generators: generators.map(find).collect::<Option<_>>()?,
+            checks: [CHECK_SSE, CHECK].map(find).into_iter().collect::<Option<_>>()?,
+        })
     }
 
-    /// The library on one stripe, or none where its blocks are no multiple of 16 bytes.
-    pub fn on(self, stripe: Stripe) -> Option<Call> {
-        stripe.b.is_multiple_of(16).then(|| Call { isal: self, stripe, places: stripe.places() })
+    /// The library on one stripe, or none where its blocks are no multiple of 32 bytes.
+    pub fn on(&self, stripe: Stripe) -> Option<Calls> {
+        stripe.b.is_multiple_of(32).then(|| Calls { isal: self.clone(), stripe, places: stripe.places() })
     }
 }
 
 /// The places are worked out once, before the clock starts.
-#[derive(Clone, Copy)]
-pub struct Call {
+#[derive(Clone)]
+pub struct Calls {
     isal: Isal,
     stripe: Stripe,
     places: *mut *mut c_void,
 }
 
-impl Call {
-    fn run(&self, function: Function) -> c_int {
-        unsafe { function(self.stripe.n as c_int + 2, self.stripe.b as c_int, self.places) }
+impl Calls {
+    pub fn generators(&self) -> Vec<Named> {
+        self.isal.generators.clone()
     }
 
-    pub fn encode(&self) {
-        assert_eq!(self.run(self.isal.generate), 0);
+    pub fn checks(&self) -> Vec<Named> {
+        self.isal.checks.clone()
     }
 
-    pub fn finds_clean(&self) -> bool {
-        self.run(self.isal.check) == 0
+    /// Whether a function passes: each generator does, and each check where the stripe is encoded.
+    pub fn passes(&self, named: Named) -> bool {
+        unsafe { (named.function)(self.stripe.n as c_int + 2, self.stripe.b as c_int, self.places) == 0 }
     }
 }
 

@@ -1,4 +1,4 @@
-//! Linux's rebuild of two data disks, `raid6_recov_ssse3.data2` over `raid6_sse2x4`, where bench/linux built it.
+//! Linux's rebuild of two data disks, where bench/linux built it: the one for SSSE3, and the best for this processor.
 
 use crate::library::Library;
 use crate::shelf::Stripe;
@@ -9,8 +9,17 @@ const FILE: &str = concat!(env!("CARGO_MANIFEST_DIR"), "/../target/bench/libraid
 /// Takes the number of blocks with the parities, their length, the lower and the higher disk, and the blocks' places.
 type Function = unsafe extern "C" fn(c_int, usize, c_int, c_int, *mut *mut c_void);
 
+pub const SSSE3: &str = "Linux data2, ssse3";
+pub const BEST: &str = "Linux data2, its best";
+
+/// `raid6_recov_ssse3.data2` over `raid6_sse2x4`, and that of the newest instructions that the processor has, over as new a syndrome.
 #[derive(Clone, Copy)]
-pub struct Linux(Function);
+pub struct Linux {
+    ssse3: Function,
+    best: Function,
+    /// Which one the best is.
+    pub chosen: &'static str,
+}
 
 impl Linux {
     pub fn find() -> Option<Linux> {
@@ -18,19 +27,29 @@ impl Linux {
             return None;
         }
         let file = CStr::from_bytes_with_nul(FILE.as_bytes()).expect("a path has no zero byte");
-        unsafe { Library::find(&[file])?.function(c"data2") }.map(Linux)
+        let library = Library::find(&[file])?;
+        let (chosen, name) = if is_x86_feature_detected!("avx512bw") && is_x86_feature_detected!("avx512vl") {
+            ("raid6_recov_avx512 over raid6_avx512x4", c"data2_avx512")
+        } else if is_x86_feature_detected!("avx2") {
+            ("raid6_recov_avx2 over raid6_avx2x4", c"data2_avx2")
+        } else {
+            ("raid6_recov_ssse3 over raid6_sse2x4", c"data2_ssse3")
+        };
+        unsafe { Some(Linux { ssse3: library.function(c"data2_ssse3")?, best: library.function(name)?, chosen }) }
     }
 
-    /// The library on one stripe, or none where its blocks are no multiple of 64 bytes. They are no larger than the pages that it
-    /// is built for.
-    pub fn on(self, stripe: Stripe) -> Option<Call> {
-        stripe.b.is_multiple_of(64).then(|| Call { function: self.0, stripe, places: stripe.places() })
+    /// The functions on one stripe, or none where its blocks are no multiple of 512 bytes. They are no larger than the pages that they
+    /// are built for.
+    pub fn on(self, stripe: Stripe) -> Vec<Call> {
+        let functions = if stripe.b.is_multiple_of(512) { vec![(SSSE3, self.ssse3), (BEST, self.best)] } else { vec![] };
+        functions.into_iter().map(|(name, function)| Call { name, function, stripe, places: stripe.places() }).collect()
     }
 }
 
 /// The places are worked out once, before the clock starts.
 #[derive(Clone, Copy)]
 pub struct Call {
+    pub name: &'static str,
     function: Function,
     stripe: Stripe,
     places: *mut *mut c_void,

@@ -1,45 +1,65 @@
-//! The plot: the time of an encode over n and over B, as two panels of one SVG with logarithmic axes.
+//! The plot: the rate of an encode over n and over B, at each level and of ISA-L's functions, as two panels of one SVG.
 
+use crate::isal::Isal;
 use crate::measure::best;
 use crate::processor;
-use crate::shelf::{Stripe, LARGEST};
+use crate::shelf::{Level, Stripe, AVX2, AVX512, BLOCK, LARGEST, OLDEST};
 use crate::verify;
 use outside::random::Random;
 use std::fmt::Write;
 
+/// The panels: n with blocks of 4,096 bytes, and B with eight disks.
 const DISKS: [usize; 13] = [1, 2, 3, 4, 6, 8, 12, 16, 32, 64, 128, 192, 255];
-const BLOCKS: [usize; 18] = [1, 2, 4, 8, 16, 32, 64, 128, 256, 512, 1024, 2048, 4095, 4096, 8192, 16384, 32768, LARGEST];
-/// The lines: B in the panel over n, and n in the panel over B.
-const BLOCK_LINES: [usize; 4] = [LARGEST, 4096, 64, 1];
-const DISK_LINES: [usize; 4] = [255, 64, 8, 1];
-const COLOURS: [&str; 4] = ["#1b4965", "#b5502c", "#3f7d45", "#7a4b94"];
+const BLOCKS: [usize; 16] = [1, 4, 16, 32, 64, 96, 128, 256, 512, 1024, 2048, BLOCK, 8192, 16384, 32768, LARGEST];
+const EIGHT: usize = 8;
+
+/// A colour for each level and the functions of ISA-L that stand beside it.
+const COLOURS: [(&str, &str); 6] = [
+    (OLDEST, "#3f7d45"),
+    (AVX2, "#b5502c"),
+    (AVX512, "#1b4965"),
+    ("pq_gen_sse", "#3f7d45"),
+    ("pq_gen_avx2", "#b5502c"),
+    ("pq_gen", "#1b4965"),
+];
 
 const TURNS: usize = 40;
-/// The axis of time, in nanoseconds.
-const LEAST: f64 = 1.0;
-const MOST: f64 = 1e7;
+/// The most of the axis of rates, and the steps between its lines, in gigabytes of data a second.
+const MOST: f64 = 70.0;
+const STEP: usize = 10;
 
 const WIDTH: f64 = 330.0;
 const HEIGHT: f64 = 320.0;
 const TOP: f64 = 50.0;
 
-/// Nanoseconds of an encode of each shape. All of them take turns, so that a slow spell of the machine does not bend
-/// one line.
-fn times(shapes: &[(usize, usize)]) -> Vec<f64> {
-    let mut random = Random::new(4);
-    let mut stripe = |&(n, b): &(usize, usize)| {
-        let stripe = Stripe::random(&mut random, n, b);
-        verify(&mut random, stripe, None, None);
-        move || stripe.encode()
-    };
-    let calls: Vec<_> = shapes.iter().map(&mut stripe).collect();
-    let calls: Vec<&dyn Fn()> = calls.iter().map(|call| call as &dyn Fn()).collect();
-    best(TURNS, &calls).into_iter().map(|seconds| seconds * 1e9).collect()
+/// A contestant's encode of one shape, and its rate.
+struct Point {
+    name: &'static str,
+    shape: (usize, usize),
+    run: Box<dyn Fn()>,
 }
 
-/// Where a number from least to most stands on a logarithmic axis of some length.
-fn place(number: f64, least: f64, most: f64, length: f64) -> f64 {
-    (number / least).ln() / (most / least).ln() * length
+/// Each contestant on each shape, those of a shape on one stripe. ISA-L takes no block that is no multiple of 32 bytes, and no
+/// stripe of one disk.
+fn points(levels: &[&'static Level], isal: Option<&Isal>, shapes: &[(usize, usize)]) -> Vec<Point> {
+    let mut random = Random::new(4);
+    let mut points = vec![];
+    for &shape in shapes {
+        let (n, b) = shape;
+        let stripe = Stripe::random(&mut random, n, b);
+        let calls = isal.filter(|_| n > 1).and_then(|isal| isal.on(stripe));
+        verify(&mut random, stripe, levels, calls.as_ref(), &[]);
+        for &level in levels {
+            points.push(Point { name: level.name, shape, run: Box::new(move || level.encode(stripe)) });
+        }
+        if let Some(calls) = calls {
+            for named in calls.generators() {
+                let calls = calls.clone();
+                points.push(Point { name: named.name, shape, run: Box::new(move || assert!(calls.passes(named))) });
+            }
+        }
+    }
+    points
 }
 
 struct Panel {
@@ -50,20 +70,21 @@ struct Panel {
 }
 
 impl Panel {
+    /// Logarithmic from 1 to the most.
     fn x(&self, number: usize) -> f64 {
-        self.left + place(number as f64, 1.0, self.most, WIDTH)
+        self.left + (number as f64).ln() / self.most.ln() * WIDTH
     }
 
-    fn y(&self, time: f64) -> f64 {
-        TOP + HEIGHT - place(time, LEAST, MOST, HEIGHT)
+    fn y(&self, rate: f64) -> f64 {
+        TOP + HEIGHT - rate / MOST * HEIGHT
     }
 
     fn axes(&self, svg: &mut String) {
         let (left, right, bottom) = (self.left, self.left + WIDTH, TOP + HEIGHT);
-        for (power, name) in ["1 ns", "10 ns", "100 ns", "1 µs", "10 µs", "100 µs", "1 ms", "10 ms"].iter().enumerate() {
-            let y = self.y(10f64.powi(power as i32));
+        for rate in (0..=MOST as usize).step_by(STEP) {
+            let y = self.y(rate as f64);
             writeln!(svg, "<path d='M{left} {y:.1}H{right}' stroke='#ddd'/>").unwrap();
-            writeln!(svg, "<text x='{}' y='{:.1}' text-anchor='end'>{name}</text>", left - 6.0, y + 4.0).unwrap();
+            writeln!(svg, "<text x='{}' y='{:.1}' text-anchor='end'>{rate}</text>", left - 6.0, y + 4.0).unwrap();
         }
         for &tick in self.ticks {
             let x = self.x(tick);
@@ -75,37 +96,55 @@ impl Panel {
         writeln!(svg, "<text x='{middle}' y='{}' text-anchor='middle'>{}</text>", bottom + 38.0, self.title).unwrap();
     }
 
-    /// A line through the points of these numbers and as many times.
-    fn line(&self, svg: &mut String, name: &str, colour: &str, numbers: &[usize], times: &[f64]) {
-        let points: Vec<_> = numbers.iter().zip(times).map(|(&number, &time)| (self.x(number), self.y(time))).collect();
-        let path: Vec<String> = points.iter().map(|(x, y)| format!("{x:.1},{y:.1}")).collect();
-        writeln!(svg, "<polyline points='{}' fill='none' stroke='{colour}' stroke-width='1.6'/>", path.join(" ")).unwrap();
-        for (x, y) in &points {
-            writeln!(svg, "<circle cx='{x:.1}' cy='{y:.1}' r='2' fill='{colour}'/>").unwrap();
-        }
-        if let Some((x, y)) = points.last() {
-            writeln!(svg, "<text x='{:.1}' y='{:.1}' fill='{colour}'>{name}</text>", x + 7.0, y + 4.0).unwrap();
-        }
+    /// A line through the points of these numbers and rates; ISA-L's is dashed.
+    fn line(&self, svg: &mut String, name: &str, colour: &str, points: &[(usize, f64)]) {
+        let path: Vec<String> = points.iter().map(|&(number, rate)| format!("{:.1},{:.1}", self.x(number), self.y(rate))).collect();
+        let dashes = if name.starts_with("pq") { " stroke-dasharray='5 4'" } else { "" };
+        writeln!(svg, "<polyline points='{}' fill='none' stroke='{colour}' stroke-width='1.6'{dashes}/>", path.join(" ")).unwrap();
     }
 }
 
-pub fn svg() -> String {
-    let mut svg = String::from("<svg xmlns='http://www.w3.org/2000/svg' viewBox='0 0 920 430' font-family='sans-serif' font-size='12'>\n");
-    svg += "<rect width='920' height='430' fill='#fff'/>\n";
-    writeln!(svg, "<text x='20' y='24' font-size='15'>Time of one encode, {}, one thread</text>", processor()).unwrap();
-    let over_n = Panel { left: 75.0, most: 255.0, title: "n, data disks", ticks: &[1, 2, 4, 8, 16, 32, 64, 128, 255] };
-    let over_b =
-        Panel { left: 520.0, most: LARGEST as f64, title: "B, bytes in a block", ticks: &[1, 4, 16, 64, 256, 1024, 4096, LARGEST] };
-    for panel in [&over_n, &over_b] {
-        panel.axes(&mut svg);
+fn legend(svg: &mut String, names: &[&'static str]) {
+    for (at, &(name, colour)) in COLOURS.iter().filter(|(name, _)| names.contains(name)).enumerate() {
+        let x = 75.0 + 140.0 * at as f64;
+        let dashes = if name.starts_with("pq") { " stroke-dasharray='5 4'" } else { "" };
+        writeln!(svg, "<path d='M{x} 440h26' stroke='{colour}' stroke-width='1.6'{dashes}/>").unwrap();
+        let text = if dashes.is_empty() { name.to_string() } else { format!("ISA-L {name}") };
+        writeln!(svg, "<text x='{}' y='444' fill='{colour}'>{text}</text>", x + 32.0).unwrap();
     }
-    let by_n = BLOCK_LINES.into_iter().flat_map(|b| DISKS.map(|n| (n, b)));
-    let by_b = DISK_LINES.into_iter().flat_map(|n| BLOCKS.map(|b| (n, b)));
-    let times = times(&by_n.chain(by_b).collect::<Vec<_>>());
-    let (by_n, by_b) = times.split_at(BLOCK_LINES.len() * DISKS.len());
-    for (i, colour) in COLOURS.into_iter().enumerate() {
-        over_n.line(&mut svg, &format!("B = {}", BLOCK_LINES[i]), colour, &DISKS, &by_n[i * DISKS.len()..]);
-        over_b.line(&mut svg, &format!("n = {}", DISK_LINES[i]), colour, &BLOCKS, &by_b[i * BLOCKS.len()..]);
+}
+
+pub fn svg(levels: &[&'static Level], isal: Option<Isal>) -> String {
+    let shapes: Vec<(usize, usize)> = DISKS.map(|n| (n, BLOCK)).into_iter().chain(BLOCKS.map(|b| (EIGHT, b))).collect();
+    let points = points(levels, isal.as_ref(), &shapes);
+    // all of them take turns, so that a slow spell of the machine does not bend one line
+    let seconds = best(TURNS, &points.iter().map(|point| &*point.run).collect::<Vec<_>>());
+    let measured: Vec<_> =
+        points.iter().zip(seconds).map(|(p, taken)| (p.name, p.shape, (p.shape.0 * p.shape.1) as f64 / taken / 1e9)).collect();
+
+    let mut svg = String::from("<svg xmlns='http://www.w3.org/2000/svg' viewBox='0 0 920 460' font-family='sans-serif' font-size='12'>\n");
+    svg += "<rect width='920' height='460' fill='#fff'/>\n";
+    writeln!(svg, "<text x='20' y='24' font-size='15'>Gigabytes of data encoded in a second, {}, one thread</text>", processor()).unwrap();
+    let over_n = Panel { left: 75.0, most: 255.0, title: "n, data disks, with B = 4096", ticks: &[1, 2, 4, 8, 16, 32, 64, 128, 255] };
+    let over_b = Panel {
+        left: 520.0,
+        most: LARGEST as f64,
+        title: "B, bytes in a block, with n = 8",
+        ticks: &[1, 4, 16, 64, 256, 1024, 4096, LARGEST],
+    };
+    over_n.axes(&mut svg);
+    over_b.axes(&mut svg);
+    for (name, colour) in COLOURS {
+        let of = |number: fn((usize, usize)) -> usize, chosen: fn((usize, usize)) -> bool| {
+            let mut line: Vec<_> = measured.iter().filter(|m| m.0 == name && chosen(m.1)).map(|m| (number(m.1), m.2)).collect();
+            line.sort_by_key(|&(number, _)| number);
+            line.dedup_by_key(|&mut (number, _)| number);
+            line
+        };
+        over_n.line(&mut svg, name, colour, &of(|shape| shape.0, |shape| shape.1 == BLOCK));
+        over_b.line(&mut svg, name, colour, &of(|shape| shape.1, |shape| shape.0 == EIGHT));
     }
+    let names: Vec<&'static str> = points.iter().map(|point| point.name).collect();
+    legend(&mut svg, &names);
     svg + "</svg>\n"
 }

@@ -1,22 +1,112 @@
-//! Calls of libshelf.a on a stripe that stays in one place, so that each contestant works on the same bytes.
+//! The library at each level of x86-64 that the machine has, and stripes that stay in one place, so that each contestant works on
+//! the same bytes. The code for x86-64 is that of libshelf.a.
 
+use crate::library::Library;
 use outside::random::Random;
 use outside::stripe::LARGEST_BLOCK;
 use std::alloc::{alloc_zeroed, Layout};
-use std::ffi::c_void;
+use std::ffi::{c_void, CString};
+use std::path::Path;
 
 /// A usual block, and the largest.
 pub const BLOCK: usize = 4096;
 pub const LARGEST: usize = LARGEST_BLOCK as usize;
 const PAGE: usize = 4096;
 
-#[link(name = "shelf", kind = "static")]
-extern "C" {
-    pub fn shelf_encode(n: u64, b: u64, stripe: *mut u8, stripe_len: usize) -> u8;
-    pub fn shelf_write(n: u64, b: u64, stripe: *mut u8, stripe_len: usize, disk: u64, offset: u64, bytes: *const u8, count: usize) -> u8;
-    pub fn shelf_rebuild(n: u64, b: u64, stripe: *mut u8, stripe_len: usize, first: u64, second: u64) -> u8;
-    pub fn shelf_check(n: u64, b: u64, stripe: *const u8, stripe_len: usize, verdicts: *mut u16, count: usize, summary: *mut u16) -> u8;
-    pub fn shelf_repair(n: u64, b: u64, stripe: *mut u8, stripe_len: usize) -> u8;
+pub const OLDEST: &str = "x86-64";
+pub const AVX2: &str = "x86-64-v3";
+pub const AVX512: &str = "x86-64-v4";
+
+/// The calls of C's header at one level.
+pub struct Level {
+    pub name: &'static str,
+    pub encode: unsafe extern "C" fn(u64, u64, *mut u8, usize) -> u8,
+    pub write: unsafe extern "C" fn(u64, u64, *mut u8, usize, u64, u64, *const u8, usize) -> u8,
+    pub rebuild: unsafe extern "C" fn(u64, u64, *mut u8, usize, u64, u64) -> u8,
+    pub check: unsafe extern "C" fn(u64, u64, *const u8, usize, *mut u16, usize, *mut u16) -> u8,
+    pub repair: unsafe extern "C" fn(u64, u64, *mut u8, usize) -> u8,
+}
+
+/// Whether the machine has a level.
+fn has(name: &str) -> bool {
+    let avx2 = is_x86_feature_detected!("avx2")
+        && is_x86_feature_detected!("bmi1")
+        && is_x86_feature_detected!("bmi2")
+        && is_x86_feature_detected!("f16c")
+        && is_x86_feature_detected!("fma")
+        && is_x86_feature_detected!("lzcnt")
+        && is_x86_feature_detected!("movbe");
+    let avx512 = is_x86_feature_detected!("avx512f")
+        && is_x86_feature_detected!("avx512bw")
+        && is_x86_feature_detected!("avx512cd")
+        && is_x86_feature_detected!("avx512dq")
+        && is_x86_feature_detected!("avx512vl");
+    match name {
+        AVX512 => avx2 && avx512,
+        AVX2 => avx2,
+        _ => true,
+    }
+}
+
+/// The levels that the machine has, from the oldest up. Each is loaded by its path, so that the loader chooses none by itself.
+pub fn levels() -> Vec<&'static Level> {
+    let folder = Path::new(concat!(env!("CARGO_MANIFEST_DIR"), "/../target/staticlib"));
+    let soname = |folder: &Path| {
+        let names = folder.read_dir().unwrap_or_else(|e| panic!("{}: {e}", folder.display())).map(|entry| entry.expect("a folder").path());
+        let mut found = names.filter(|path| path.to_string_lossy().contains("/libshelf.so."));
+        found.next().unwrap_or_else(|| panic!("{} has no shared library", folder.display()))
+    };
+    let find = |name| {
+        let path = if name == OLDEST { soname(folder) } else { soname(&folder.join("glibc-hwcaps").join(name)) };
+        let path = CString::new(path.to_str().expect("a path is a text")).expect("a path has no zero byte");
+        let library = Library::find(&[&path]).unwrap_or_else(|| panic!("{path:?} can't be loaded"));
+        let level: Option<&'static Level> = unsafe {
+            (|| {
+                Some(&*Box::leak(Box::new(Level {
+                    name,
+                    encode: library.function(c"shelf_encode")?,
+                    write: library.function(c"shelf_write")?,
+                    rebuild: library.function(c"shelf_rebuild")?,
+                    check: library.function(c"shelf_check")?,
+                    repair: library.function(c"shelf_repair")?,
+                })))
+            })()
+        };
+        level.unwrap_or_else(|| panic!("{path:?} lacks a call"))
+    };
+    let levels: Vec<&'static Level> = [OLDEST, AVX2, AVX512].into_iter().filter(|name| has(name)).map(find).collect();
+    for pair in levels.windows(2) {
+        assert!(pair[0].encode as usize != pair[1].encode as usize, "two levels are one library");
+    }
+    levels
+}
+
+/// The calls on a stripe, each of them done.
+impl Level {
+    pub fn encode(&self, stripe: Stripe) {
+        stripe.done(unsafe { (self.encode)(stripe.n as u64, stripe.b as u64, stripe.start, stripe.length()) });
+    }
+
+    pub fn rebuild(&self, stripe: Stripe, first: u64, second: u64) {
+        stripe.done(unsafe { (self.rebuild)(stripe.n as u64, stripe.b as u64, stripe.start, stripe.length(), first, second) });
+    }
+
+    pub fn write(&self, stripe: Stripe, disk: u64, bytes: &[u8]) {
+        let (n, b) = (stripe.n as u64, stripe.b as u64);
+        stripe.done(unsafe { (self.write)(n, b, stripe.start, stripe.length(), disk, 0, bytes.as_ptr(), bytes.len()) });
+    }
+
+    pub fn repair(&self, stripe: Stripe) {
+        stripe.done(unsafe { (self.repair)(stripe.n as u64, stripe.b as u64, stripe.start, stripe.length()) });
+    }
+
+    /// The summary of the verdicts.
+    pub fn check(&self, stripe: Stripe) -> u16 {
+        let (n, b) = (stripe.n as u64, stripe.b as u64);
+        let mut summary = 0;
+        stripe.done(unsafe { (self.check)(n, b, stripe.start, stripe.length(), stripe.room, stripe.b, &mut summary) });
+        summary
+    }
 }
 
 /// A stripe by its pointer: calls through it may follow one another in any order.
@@ -70,30 +160,5 @@ impl Stripe {
 
     fn done(&self, result: u8) {
         assert_eq!(result, 0, "refused; n {}, B {}", self.n, self.b);
-    }
-
-    pub fn encode(&self) {
-        self.done(unsafe { shelf_encode(self.n as u64, self.b as u64, self.start, self.length()) });
-    }
-
-    pub fn rebuild(&self, first: u64, second: u64) {
-        self.done(unsafe { shelf_rebuild(self.n as u64, self.b as u64, self.start, self.length(), first, second) });
-    }
-
-    pub fn write(&self, disk: u64, bytes: &[u8]) {
-        let (n, b) = (self.n as u64, self.b as u64);
-        self.done(unsafe { shelf_write(n, b, self.start, self.length(), disk, 0, bytes.as_ptr(), bytes.len()) });
-    }
-
-    pub fn repair(&self) {
-        self.done(unsafe { shelf_repair(self.n as u64, self.b as u64, self.start, self.length()) });
-    }
-
-    /// The summary of the verdicts.
-    pub fn check(&self) -> u16 {
-        let (n, b) = (self.n as u64, self.b as u64);
-        let mut summary = 0;
-        self.done(unsafe { shelf_check(n, b, self.start, self.length(), self.room, self.b, &mut summary) });
-        summary
     }
 }

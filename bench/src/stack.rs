@@ -1,6 +1,6 @@
 //! How much stack a call uses: it runs on a painted stack of its own, and what it wrote to is counted.
 
-use crate::shelf::{shelf_check, shelf_encode, shelf_rebuild, shelf_repair, shelf_write, Stripe, BLOCK, LARGEST};
+use crate::shelf::{Level, Stripe, BLOCK, LARGEST};
 use outside::random::Random;
 use outside::stripe::{NONE, P, Q};
 use std::arch::asm;
@@ -54,46 +54,50 @@ fn most(ready: impl Fn(Stripe, usize), calls: impl Fn(Stripe) -> Vec<(usize, [u6
     most
 }
 
-pub fn print() {
-    let head = |stripe: Stripe| [stripe.n as u64, stripe.b as u64, stripe.start as u64, stripe.length() as u64];
+/// The most of each call at one level.
+fn calls(level: &Level) -> [(&'static str, usize); 5] {
     let call = |stripe: Stripe, rest: [u64; 4]| {
-        let [n, b, start, length] = head(stripe);
-        [n, b, start, length, rest[0], rest[1], rest[2], rest[3]]
+        [stripe.n as u64, stripe.b as u64, stripe.start as u64, stripe.length() as u64, rest[0], rest[1], rest[2], rest[3]]
     };
     let bytes = Random::new(3).bytes(LARGEST);
     let any = |_: Stripe, _: usize| {};
-    let encode = most(any, |stripe| vec![(shelf_encode as *const () as usize, call(stripe, [0; 4]))]);
+    let encode = most(any, |stripe| vec![(level.encode as usize, call(stripe, [0; 4]))]);
     let write = most(any, |stripe| {
         let last = stripe.n as u64 - 1;
-        vec![(shelf_write as *const () as usize, call(stripe, [last, 0, bytes.as_ptr() as u64, stripe.b as u64]))]
+        vec![(level.write as usize, call(stripe, [last, 0, bytes.as_ptr() as u64, stripe.b as u64]))]
     });
     let rebuild = most(any, |stripe| {
         let devices = [0, stripe.n as u64 - 1, P, Q];
         let pairs = devices.into_iter().flat_map(|first| devices.into_iter().chain([NONE]).map(move |second| (first, second)));
         let pairs = pairs.filter(|(first, second)| first != second);
-        pairs.map(|(first, second)| (shelf_rebuild as *const () as usize, call(stripe, [first, second, 0, 0]))).collect()
+        pairs.map(|(first, second)| (level.rebuild as usize, call(stripe, [first, second, 0, 0]))).collect()
     });
     // random bytes, so that the check finds differences
     let mut summary = 0u16;
     let summary = &raw mut summary as u64;
     let check = most(any, |stripe| {
         let rest = [stripe.room as u64, stripe.b as u64, summary, 0];
-        vec![(shelf_check as *const () as usize, call(stripe, rest))]
+        vec![(level.check as usize, call(stripe, rest))]
     });
     // each of some devices wrong in all columns
     let devices = |stripe: Stripe| [0, stripe.n - 1, stripe.n, stripe.n + 1];
     let spoiled = |mut stripe: Stripe, number: usize| {
-        stripe.encode();
+        level.encode(stripe);
         stripe.block(devices(stripe)[number]).iter_mut().for_each(|byte| *byte ^= 0x40);
     };
-    let repair = most(spoiled, |stripe| devices(stripe).map(|_| (shelf_repair as *const () as usize, call(stripe, [0; 4]))).to_vec());
-    println!("| call | bytes of stack |");
-    println!("|---|---|");
-    let rows =
-        [("shelf_encode", encode), ("shelf_write", write), ("shelf_rebuild", rebuild), ("shelf_check", check), ("shelf_repair", repair)];
-    for (name, most) in rows {
-        println!("| `{name}` | {most} |");
-        assert!(most <= LIMIT, "{name} uses more than {LIMIT} bytes");
+    let repair = most(spoiled, |stripe| devices(stripe).map(|_| (level.repair as usize, call(stripe, [0; 4]))).to_vec());
+    [("shelf_encode", encode), ("shelf_write", write), ("shelf_rebuild", rebuild), ("shelf_check", check), ("shelf_repair", repair)]
+}
+
+pub fn print(levels: &[&Level]) {
+    println!("Bytes of stack:");
+    println!();
+    println!("| call |{}", levels.iter().map(|level| format!(" {} |", level.name)).collect::<String>());
+    println!("|---|{}", "---|".repeat(levels.len()));
+    let levels: Vec<_> = levels.iter().map(|level| calls(level)).collect();
+    for (call, (name, _)) in levels[0].iter().enumerate() {
+        println!("| `{name}` |{}", levels.iter().map(|calls| format!(" {} |", calls[call].1)).collect::<String>());
+        assert!(levels.iter().all(|calls| calls[call].1 <= LIMIT), "{name} uses more than {LIMIT} bytes");
     }
     println!();
     println!("The limit is {LIMIT} bytes.");
