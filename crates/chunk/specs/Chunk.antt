@@ -10,7 +10,7 @@ use Rattle.base.specs.Table.{tabulate}
 use Rattle.gf256.specs.Field.{sum, double}
 
 abbrev pub width : ℕ
-width = 64
+width = 128
 
 -- the chunk whose place j holds f j
 abbrev pub each : (ℕ → ℕ) → List ℕ

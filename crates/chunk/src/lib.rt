@@ -11,7 +11,7 @@ ghost use Rattle.base.specs.Table.{tabulate};
 ghost use Rattle.chunk.specs.Chunk.{width, each, stored, plus, doublePlus, allZero};
 
 // The number of columns that are worked on at a time.
-pub const WIDTH: usize = 64;
+pub const WIDTH: usize = 128;
 
 // The first WIDTH bytes, with 00 for those that are missing. Here and in `store` the part way has a chunk
 // of its own, so that a whole chunk can stay in registers; the 00 stored last keeps the compiler from

@@ -18,12 +18,12 @@ pub struct Sums {
 }
 
 // The chunks of a strip, and its columns.
-pub const CHUNKS: usize = 16;
+pub const CHUNKS: usize = 8;
 
 pub const STRIP: usize = CHUNKS * WIDTH;
 
 // The disks that are added to a chunk of a strip before its next chunk.
-const GROUP: usize = 32;
+const GROUP: usize = 8;
 
 // With more disks than these a stripe is worked on in strips.
 const FEW: usize = 64;

@@ -22,10 +22,10 @@ use Rattle.compare.proofs.check_strip.Tie as tie
 
 abbrev Inv-loop : tie.InvT-loop
 Inv-loop g stripe i room₀ p₀ q₀ found₀ m₀ room found m =
-    (m ≤ 16) × FilledWithSummary (λ j. verdict (g .n) (column g stripe (i + j))) strip room₀ room (width * m) found
+    (m ≤ 8) × FilledWithSummary (λ j. verdict (g .n) (column g stripe (i + j))) strip room₀ room (width * m) found
 
 abbrev μ-loop : tie.MeasureT-loop
-μ-loop g stripe i room₀ p₀ q₀ found₀ m₀ room found m = 16 - m
+μ-loop g stripe i room₀ p₀ q₀ found₀ m₀ room found m = 8 - m
 
 -- p and q have a strip's length
 long : (c : tie.After-strip-survivors Inv-loop μ-loop) → (length (c .strip-survivors .last .1 .1 .1 .1 .1 .0) ≡ strip) × (length (c .strip-survivors .last .1 .1 .1 .1 .1 .1 .0) ≡ strip)

@@ -20,10 +20,10 @@ use Rattle.restore.proofs.restore_strip.Statement.{statement}
 use Rattle.restore.proofs.restore_strip.Tie as tie
 
 abbrev Inv-loop : tie.InvT-loop
-Inv-loop g stripe₀ i x y rule p₀ q₀ m₀ stripe m = (m ≤ 16) × ColumnsMapped g i (width * m) (λ j c. solved (g .n) x y rule c) stripe₀ stripe
+Inv-loop g stripe₀ i x y rule p₀ q₀ m₀ stripe m = (m ≤ 8) × ColumnsMapped g i (width * m) (λ j c. solved (g .n) x y rule c) stripe₀ stripe
 
 abbrev μ-loop : tie.MeasureT-loop
-μ-loop g stripe₀ i x y rule p₀ q₀ m₀ stripe m = 16 - m
+μ-loop g stripe₀ i x y rule p₀ q₀ m₀ stripe m = 8 - m
 
 -- p and q have a strip's length
 long : (c : tie.After-strip-survivors Inv-loop μ-loop) → (length (c .strip-survivors .last .1 .1 .1 .1 .1 .0) ≡ strip) × (length (c .strip-survivors .last .1 .1 .1 .1 .1 .1 .0) ≡ strip)

@@ -21,12 +21,12 @@ use Rattle.sums.proofs.add_to_strip.Tie as tie
 
 abbrev Inv-loop : tie.InvT-loop
 Inv-loop g stripe i x y from to p₀ q₀ m₀ p q m =
-    (m ≤ 16)
+    (m ≤ 8)
     × Filled (λ j v. stageP (g .n) from (stripColumn g stripe i x y j)) strip p₀ p (width * m)
     × Filled (λ j v. stageQ (g .n) from (stripColumn g stripe i x y j)) strip q₀ q (width * m)
 
 abbrev μ-loop : tie.MeasureT-loop
-μ-loop g stripe i x y from to p₀ q₀ m₀ p q m = 16 - m
+μ-loop g stripe i x y from to p₀ q₀ m₀ p q m = 8 - m
 
 loop-holds : tie.Need-loop-holds Inv-loop μ-loop
 loop-holds c =
