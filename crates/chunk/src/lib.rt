@@ -82,6 +82,23 @@ pub fn add_disk(p: &mut [u8; WIDTH], q: &mut [u8; WIDTH], d: &[u8; WIDTH])
     }
 }
 
+// Two more disks in both sums, the higher one first: p + d + e, and by Horner's rule (equation 21)
+// 02 (02 q + d) + e. Both are read before the first step.
+pub fn add_two_disks(p: &mut [u8; WIDTH], q: &mut [u8; WIDTH], d: &[u8; WIDTH], e: &[u8; WIDTH])
+    ensures { λ _. ⌜ (now (p .exit) ≡ plus (plus (now (p .entry)) (now (d .entry))) (now (e .entry))) × (now (q .exit) ≡ doublePlus (doublePlus (now (q .entry)) (now (d .entry))) (now (e .entry))) ⌝ }
+{
+    let _p: &[u8] = p;
+    let _q: &[u8] = q;
+    let mut j = 0;
+    while j < WIDTH {
+        let x = Element(d[j]);
+        let y = Element(e[j]);
+        p[j] = Element(p[j]).sum(x).sum(y).0;
+        q[j] = Element(q[j]).double().sum(x).double().sum(y).0;
+        j += 1;
+    }
+}
+
 // Whether both are 00 at every place.
 pub fn are_zero(p: &[u8; WIDTH], q: &[u8; WIDTH]) -> bool
     ensures { λ r. ⌜ r ≡ allZero (now (p .entry)) (now (q .entry)) ⌝ }

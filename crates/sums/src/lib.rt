@@ -38,7 +38,7 @@ pub fn parities(g: Geometry, stripe: &[u8], i: usize) -> Sums
         let k = g.n - 1;
         let d = stretch::load(g, stripe, k, i, WIDTH);
         chunk::add_disk(&mut p, &mut q, &d);
-        add_disks(g, stripe, i, 0, k, &mut p, &mut q);
+        add_pairs(g, stripe, i, k, &mut p, &mut q);
     }
     Sums { p, q }
 }
@@ -54,7 +54,7 @@ pub fn syndromes(g: Geometry, stripe: &[u8], i: usize) -> Sums
         let k = g.n - 1;
         let d = stretch::load(g, stripe, k, i, WIDTH);
         chunk::add_disk(&mut p, &mut q, &d);
-        add_disks(g, stripe, i, 0, k, &mut p, &mut q);
+        add_pairs(g, stripe, i, k, &mut p, &mut q);
         let d = stretch::load(g, stripe, g.n, i, WIDTH);
         chunk::add(&mut p, &d);
         let d = stretch::load(g, stripe, g.n + 1, i, WIDTH);
@@ -214,6 +214,32 @@ fn add_disks(
         let d = chunk::load(&stripe[at..at + WIDTH]);
         chunk::add_disk(p, q, &d);
     }
+}
+
+// All disks below `to`, two at a time, and the last alone where their number is odd. Where disks are lost there are up to three
+// runs of them, and the compiler leaves a step of two out of the loop over the chunks: those go one by one.
+fn add_pairs(
+    g: Geometry,
+    stripe: &[u8],
+    i: usize,
+    to: usize,
+    p: &mut [u8; WIDTH],
+    q: &mut [u8; WIDTH],
+)
+    requires { ⌜ Has g (now stripe) i width × (to ≤ g .n) ⌝ }
+    ensures { λ _. ⌜ DisksAdded g i 0 to (now (stripe .entry)) (now (p .entry)) (now (q .entry)) (now (p .exit)) (now (q .exit)) ⌝ }
+{
+    let mut k = to;
+    let mut at = g.start(to) + i;
+    while 1 < k {
+        k -= 2;
+        let above = g.role_before(at);
+        at = g.role_before(above);
+        let d = chunk::load(&stripe[above..above + WIDTH]);
+        let e = chunk::load(&stripe[at..at + WIDTH]);
+        chunk::add_two_disks(p, q, &d, &e);
+    }
+    add_disks(g, stripe, i, 0, k, p, q);
 }
 
 // Whether a buffer of this length is a stripe with a strip of columns from i on.

@@ -28,8 +28,8 @@ load-requires c κs = search needs
 add-disk-requires : tie.Need-add-disk-requires
 add-disk-requires c κs = search needs
 
-add-disks-requires : tie.Need-add-disks-requires
-add-disks-requires c κs = (tested (c .before .before .before .before .before .before .before .before), omega arith, omega arith)
+add-pairs-requires : tie.Need-add-pairs-requires
+add-pairs-requires c κs = (tested (c .before .before .before .before .before .before .before .before), omega arith)
 
 returns : tie.Need-returns
 returns c =
@@ -39,7 +39,7 @@ returns c =
     let a = c .before .before .before .before .before .before .before .before .before .before .before .before .args in
     let n = a .g .n in
     let f = columnOf (a .g) (a .stripe .now) (a .i) width in
-    let sums = tails-all n f (all-added (d .result) h (d .ensures) (λ j. elem-fits w8 w8 (d .result) (d .ok .0) j (d .ok .1 .1) tt .fits) (first .0) (first .1) (c .add-disks .ensures)) in
+    let sums = tails-all n f (all-added (d .result) h (d .ensures) (λ j. elem-fits w8 w8 (d .result) (d .ok .0) j (d .ok .1 .1) tt .fits) (first .0) (first .1) (c .add-pairs .ensures)) in
     ap₂ two (sums .0) (sums .1)
 
 returns-2 : tie.Need-returns-2
@@ -48,4 +48,4 @@ returns-2 c = let a = c .before .before .before .args in no-parities (a .g) (a .
 pub parities-spec : {M : Type 1} → statement M
 parities-spec =
     tie.close
-    (tie.spec has-columns-requires sub-k load-requires add-disk-requires add-disks-requires returns returns-2)
+    (tie.spec has-columns-requires sub-k load-requires add-disk-requires add-pairs-requires returns returns-2)

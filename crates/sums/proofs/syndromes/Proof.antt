@@ -28,8 +28,8 @@ load-requires c κs = search needs
 add-disk-requires : tie.Need-add-disk-requires
 add-disk-requires c κs = search needs
 
-add-disks-requires : tie.Need-add-disks-requires
-add-disks-requires c κs = (tested (c .before .before .before .before .before .before .before .before), omega arith, omega arith)
+add-pairs-requires : tie.Need-add-pairs-requires
+add-pairs-requires c κs = (tested (c .before .before .before .before .before .before .before .before), omega arith)
 
 load-requires-2 : tie.Need-load-requires-2
 load-requires-2 c κs = search needs
@@ -52,7 +52,7 @@ returns c =
     let first = c .before .before .before .before .before .before .before .before .before .before .before .before .add-disk .ensures in
     let a = c .before .before .before .before .before .before .before .before .before .before .before .before .before .before .before .before .before .before .before .before .before .args in
     tails-stored (a .g .n) (columnOf (a .g) (a .stripe .now) (a .i) width)
-    (all-added (d .result) (tested (c .before .before .before .before .before .before .before .before .before .before .before .before .before .before .before .before .before .before)) (d .ensures) (λ j. elem-fits w8 w8 (d .result) (d .ok .0) j (d .ok .1 .1) tt .fits) (first .0) (first .1) (c .before .before .before .before .before .before .before .before .before .add-disks .ensures))
+    (all-added (d .result) (tested (c .before .before .before .before .before .before .before .before .before .before .before .before .before .before .before .before .before .before)) (d .ensures) (λ j. elem-fits w8 w8 (d .result) (d .ok .0) j (d .ok .1 .1) tt .fits) (first .0) (first .1) (c .before .before .before .before .before .before .before .before .before .add-pairs .ensures))
     (c .before .before .before .before .before .before .before .before .load2 .ensures)
     (c .before .before .before .load3 .ensures)
     (c .before .before .before .before .before .add .ensures)
@@ -69,7 +69,7 @@ syndromes-spec =
     sub-k
     load-requires
     add-disk-requires
-    add-disks-requires
+    add-pairs-requires
     load-requires-2
     add-requires
     add-load
