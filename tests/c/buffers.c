@@ -165,8 +165,8 @@ static void unaligned(uint64_t n, uint64_t b)
     free(found);
 }
 
-static const uint64_t DISKS[] = {1, 2, 3, 8, 255};
-static const uint64_t BLOCKS[] = {1, 2, 7, 8, 63, 64, 65, 127, 128, 129, 512, 4095, 4096, 4097, 65535, 65536};
+static const uint64_t DISKS[] = {1, 2, 3, 4, 8, 255};
+static const uint64_t BLOCKS[] = {1, 2, 7, 8, 63, 64, 65, 127, 128, 129, 257, 512, 4095, 4096, 4097, 65535, 65536};
 
 /* Tries the shapes with at most so many bytes of data. */
 static void shapes(void (*test)(uint64_t n, uint64_t b), uint64_t most)

@@ -9,7 +9,7 @@ use std::time::Duration;
 use outside::job::{self, Header, CHECK, ENCODE, LARGEST_STRIPE, REBUILD, REPAIR};
 use outside::program::{self, ClosedPipe};
 use outside::random::{trials, Random};
-use outside::shapes::{BLOCKS, DISKS};
+use outside::shapes::{BLOCKS, CHUNK, DISKS};
 
 const PROGRAM: &str = "shelf_job";
 const P: u16 = 256;
@@ -259,12 +259,12 @@ fn every_shape() {
     }
 }
 
-/// One wrong byte in each column in turn, in chunks of 64 columns and in what is left.
+/// One wrong byte in each column in turn, in chunks and in what is left.
 #[test]
 fn every_column_spoiled() {
     let mut random = Random::new(3);
     let n = 3;
-    for b in [63, 64, 65, 130] {
+    for b in [CHUNK - 1, CHUNK, CHUNK + 1, 2 * CHUNK + 2] {
         let mut stripe = random.bytes(((n + 2) * b) as usize);
         encode_and_spoil(&mut random, n, b, &mut stripe, 0);
         for column in 0..b {

@@ -2,7 +2,7 @@
 //! that are accepted and calls that are refused.
 
 use outside::random::{trials, Random};
-use outside::shapes::{BLOCKS, DISKS, FEW_DISKS, LARGE_BLOCKS};
+use outside::shapes::{BLOCKS, CHUNK, DISKS, FEW_DISKS, LARGE_BLOCKS};
 use outside::stripe::{self, LARGEST_BLOCK, NONE, P, Q};
 use outside::table::Table;
 
@@ -225,7 +225,7 @@ fn every_disk_of_many() {
 fn every_pair_of_losses_up_to_eight_disks() {
     let mut random = Random::new(2);
     for n in 1..=8 {
-        for b in [1, 7, 65] {
+        for b in [1, 7, 65, CHUNK + 2] {
             let odd = random_stripe(&mut random, n, b);
             let mut encoded = odd.clone();
             assert_eq!(Call::Encode.compare(n, b, &mut encoded), 0);
@@ -247,7 +247,7 @@ fn every_pair_of_losses_up_to_eight_disks() {
 #[test]
 fn every_data_pair_of_the_widest_stripe() {
     let mut random = Random::new(3);
-    for b in [1, 64] {
+    for b in [1, CHUNK] {
         let mut encoded = random_stripe(&mut random, 255, b);
         assert_eq!(Call::Encode.compare(255, b, &mut encoded), 0);
         for first in 0..255 {
@@ -258,12 +258,12 @@ fn every_data_pair_of_the_widest_stripe() {
     }
 }
 
-/// Blocks of no chunk of 64 bytes, of one, of some, and of some and a part of one.
+/// Blocks of no chunk, of one, of some, and of some and a part of one.
 #[test]
 fn every_block_size_up_to_three_chunks() {
     let mut random = Random::new(8);
     let n = 3;
-    for b in 1..=193 {
+    for b in 1..=3 * CHUNK + 1 {
         let mut stripe = random_stripe(&mut random, n, b);
         for (first, second) in [(1, NONE), (P, NONE), (Q, NONE), (1, P), (1, Q), (P, Q), (0, 2)] {
             assert_eq!(Call::Rebuild { first, second }.compare(n, b, &mut stripe), 0);
@@ -276,9 +276,9 @@ fn every_block_size_up_to_three_chunks() {
 #[test]
 fn stretches_that_begin_and_end_about_a_chunk() {
     let mut random = Random::new(9);
-    let (n, b) = (3, 130);
+    let (n, b) = (3, 2 * CHUNK + 2);
     let mut stripe = random_stripe(&mut random, n, b);
-    for offset in [0, 1, 2, 63, 64, 65, 66, 67, 129] {
+    for offset in [0, 1, 2, 63, 64, 65, CHUNK - 1, CHUNK, CHUNK + 1, CHUNK + 2, CHUNK + 3, b - 1] {
         for count in 1..=b - offset {
             let (disk, bytes) = (count % n, random.bytes(count as usize));
             assert_eq!(Call::Write { disk, offset, bytes }.compare(n, b, &mut stripe), 0);

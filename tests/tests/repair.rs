@@ -63,7 +63,7 @@ fn each_damage_of(random: &mut Random, n: u64, b: u64, encoded: &[u8], device: u
 fn one_altered_device_comes_back() {
     let mut random = Random::new(1);
     for n in [1, 2, 8] {
-        for b in [1, 2, 7, 63, 64, 65, 200, 1024] {
+        for b in [1, 2, 7, 64, 127, 128, 129, 300, 1024] {
             let encoded = encoded(&mut random, n, b);
             for device in 0..n + 2 {
                 each_damage_of(&mut random, n, b, &encoded, device);
@@ -139,7 +139,7 @@ fn two_altered_devices_in_one_column() {
     let (refused, mistaken) = (Cell::new(0), Cell::new(0));
     for n in [1, 2, 3, 8, 16, 64, 255] {
         trials(300, |random| {
-            let b = random.pick(&[1, 3, 64, 70]);
+            let b = random.pick(&[1, 3, 70, 128, 140]);
             let encoded = encoded(random, n, b);
             let column = random.within(0, b as usize - 1) as u64;
             let first = random.within(0, n as usize + 1) as u64;
@@ -172,7 +172,7 @@ fn two_altered_devices_in_one_column() {
 fn altered_devices_in_different_columns() {
     trials(400, |random| {
         let n = random.pick(&[1, 2, 3, 8, 65, 255]);
-        let b = random.pick(&[2, 5, 64, 65, 130, 1024, 1100]);
+        let b = random.pick(&[2, 5, 64, 128, 129, 260, 1024, 1100]);
         let mut stripe = encoded(random, n, b);
         let first = random.within(0, n as usize + 1) as u64;
         let second = (first + random.within(1, n as usize + 1) as u64) % (n + 2);
@@ -235,7 +235,7 @@ fn refusals() {
     };
     for summary in [UNKNOWN, MIXED] {
         // with 255 data disks every pair of checks that aren't 00 has its disk
-        for (n, b) in [(1, 2), (2, 64), (8, 100), (64, 1024), (65, 1024), (65, 1100), (254, 1030), (2, LARGEST_BLOCK)] {
+        for (n, b) in [(1, 2), (2, 128), (8, 200), (64, 1024), (65, 1024), (65, 1100), (254, 1030), (2, LARGEST_BLOCK)] {
             let bytes = unclear(&mut random, n, b, summary);
             refused(9, n, b, &bytes);
             refused(1, 0, b, &bytes);
