@@ -1,5 +1,6 @@
 //! The clock: best of several runs, the contestants taking turns.
 
+use std::arch::x86_64::_mm256_zeroupper;
 use std::time::Instant;
 
 /// Turns of each contestant.
@@ -20,6 +21,17 @@ fn time(call: &dyn Fn(), count: usize) -> f64 {
     start.elapsed().as_secs_f64()
 }
 
+/// Clears the upper halves of the vector registers. Some peers leave them in use, which slows down SSE code that comes after.
+fn clear_upper_halves() {
+    #[target_feature(enable = "avx")]
+    fn clear() {
+        _mm256_zeroupper();
+    }
+    if is_x86_feature_detected!("avx") {
+        unsafe { clear() }
+    }
+}
+
 /// How many calls fill a turn.
 fn calls(call: &dyn Fn()) -> usize {
     let mut count = 1;
@@ -32,13 +44,14 @@ fn calls(call: &dyn Fn()) -> usize {
     }
 }
 
-/// Seconds that each takes, in its best turn. A turn begins with calls that are not timed, so that the caches are as the
-/// contestant's own call leaves them and not as the others did.
+/// Seconds that each takes, in its best turn. A turn begins with calls that are not timed, so that the caches and registers are as
+/// the contestant's own call leaves them and not as the others did.
 pub fn best(turns: usize, contestants: &[&dyn Fn()]) -> Vec<f64> {
     let counts: Vec<usize> = contestants.iter().map(|call| calls(*call)).collect();
     let mut best = vec![f64::INFINITY; contestants.len()];
     for _ in 0..turns {
         for (i, call) in contestants.iter().enumerate() {
+            clear_upper_halves();
             time(call, WARM);
             best[i] = best[i].min(time(call, counts[i]) / counts[i] as f64);
         }

@@ -25,7 +25,7 @@ const COLOURS: [(&str, &str); 6] = [
 
 const TURNS: usize = 40;
 /// The most of the axis of rates, and the steps between its lines, in gigabytes of data a second.
-const MOST: f64 = 70.0;
+const MOST: f64 = 80.0;
 const STEP: usize = 10;
 
 const WIDTH: f64 = 330.0;
@@ -106,7 +106,7 @@ impl Panel {
 
 fn legend(svg: &mut String, names: &[&'static str]) {
     for (at, &(name, colour)) in COLOURS.iter().filter(|(name, _)| names.contains(name)).enumerate() {
-        let x = 75.0 + 140.0 * at as f64;
+        let x = [75.0, 185.0, 315.0, 445.0, 600.0, 765.0][at];
         let dashes = if name.starts_with("pq") { " stroke-dasharray='5 4'" } else { "" };
         writeln!(svg, "<path d='M{x} 440h26' stroke='{colour}' stroke-width='1.6'{dashes}/>").unwrap();
         let text = if dashes.is_empty() { name.to_string() } else { format!("ISA-L {name}") };
