@@ -1,5 +1,5 @@
--- One disk more. All disks: the highest, and those below it. The disks of a group in three runs: above the higher of two lost ones, between
--- both and below, each lost one as 00.
+-- Where the columns of a disk stand, and one disk more. All disks: the highest, and those below it. The disks of a group in three runs: above the
+-- higher of two lost ones, between both and below, each lost one as 00.
 -- Assumes nothing.
 use mathlib.Core.Path.{_≡_, refl, sym, ap, _∙_}
 use mathlib.Core.Logic.{_⊎_, inr, ⊎-elim}
@@ -13,21 +13,25 @@ use Rattle.column.specs.Column.{Column}
 use Rattle.losses.specs.Losses.{without}
 use Rattle.losses.proofs.Without.{without-other, without-lost}
 use Rattle.shape.specs.declared.Geometry.{Geometry}
-use Rattle.shape.specs.Layout.{start, placeBefore, column}
-use Rattle.shape.proofs.Stretch.{before-start, stretch-inside, part-at}
+use Rattle.shape.specs.Layout.{start, lowStart, placeBefore, column}
+use Rattle.shape.proofs.Stretch.{block-start, before-start, stretch-inside, part-at}
 use Rattle.stretch.specs.Stretch.{Has, columnOf}
 use Rattle.stretch.proofs.Laws.{column-of}
 use Rattle.sums.specs.Sums.{Tails, DisksAdded, AddedAbove}
 use Rattle.sums.specs.Strip.{AddedWithin}
 use Rattle.sums.proofs.Horner.{tails-none, tails-more}
 
--- the columns of a disk lie within the stripe
+-- where the columns of a disk stand
+pub placed : {g : Geometry} {s : List ℕ} {i : ℕ} → Has g s i width → (k : ℕ) {p : ℕ} → k ≤ g .n → p ≡ lowStart g k → p + i ≡ start g k + i
+placed {g} {s} {i} has k h is = ap (λ (p : ℕ). p + i) (block-start g s k (has .shaped) (omega arith) is)
+
+-- they lie within the stripe
 pub inside : {g : Geometry} {s : List ℕ} {i : ℕ} → Has g s i width → (k : ℕ) {at : ℕ} → k ≤ g .n → at ≡ start g k + i → at + width ≤ length s
 inside {g} {s} {i} has k h is =
     let within = stretch-inside g s k i width (has .shaped) (omega arith) (has .fits) in
     omega arith
 
--- where those of the disk below disk m stand
+-- and where those of the disk below disk m do
 pub below : {g : Geometry} {s : List ℕ} {i : ℕ} → Has g s i width → length s < 18446744073709551616 → (k : ℕ) {m at r : ℕ} → m ≡ suc k → m ≤ g .n
     → at ≡ start g m + i
     → r ≡ placeBefore g at

@@ -1,16 +1,15 @@
 -- `sums::add_disks` meets its contract. The loop's invariant: the disks from k on are added, and `at` is column i of disk k's block.
 -- Assumes nothing.
 use borrow.Author.Needs.{needs, elem-fits}
-use mathlib.Core.Path.{_≡_, ap, subst}
+use mathlib.Core.Path.{_≡_, subst}
 use Prim.Native.Nat.{ℕ, _+_, _-_, _≤_}
 use native.Mathlib.Omega.{arith}
 use mir.Syntax.{w8}
 use lib.ListN.{length}
 use Rattle.chunk.specs.Chunk.{width}
 use Rattle.shape.specs.Layout.{start}
-use Rattle.shape.proofs.Stretch.{block-start}
 use Rattle.sums.specs.Sums.{DisksAdded}
-use Rattle.sums.proofs.Runs.{inside, below, disk-added}
+use Rattle.sums.proofs.Runs.{placed, inside, below, disk-added}
 use Rattle.sums.proofs.add_disks.Statement.{statement}
 use Rattle.sums.proofs.add_disks.Tie as tie
 
@@ -25,10 +24,7 @@ start-requires : tie.Need-start-requires Inv-loop μ-loop
 start-requires c κs = search needs
 
 begins : (c : tie.After-start Inv-loop μ-loop) → let a = c .before .before .args in c .start .result + a .i ≡ start (a .g) (a .to) + a .i
-begins c =
-    let here = c .before .before in
-    let a = here .args in
-    ap (λ (p : ℕ). p + a .i) (block-start (a .g) (a .stripe .now) (a .to) (here .pre .0 .shaped) (omega arith) (c .start .ensures))
+begins c = placed (c .before .before .pre .0) (c .before .before .args .to) (omega arith) (c .start .ensures)
 
 add-at : tie.Need-add-at Inv-loop μ-loop
 add-at c = omega (arith, inside (c .before .before .pre .0) (c .before .before .args .to) (omega arith) (begins c))
