@@ -1,4 +1,4 @@
-//! The clock: best of several runs, the contestants taking turns.
+//! The clock: the middle one of several turns, the contestants taking turns.
 
 use std::arch::x86_64::_mm256_zeroupper;
 use std::time::Instant;
@@ -44,17 +44,22 @@ fn calls(call: &dyn Fn()) -> usize {
     }
 }
 
-/// Seconds that each takes, in its best turn. A turn begins with calls that are not timed, so that the caches and registers are as
-/// the contestant's own call leaves them and not as the others did.
-pub fn best(turns: usize, contestants: &[&dyn Fn()]) -> Vec<f64> {
+/// Seconds that each takes, in its middle turn: a processor that is faster for some turns would else favour the contestants that had
+/// them. A turn begins with calls that are not timed, so that the caches and registers are as the contestant's own call leaves them
+/// and not as the others did.
+pub fn middle(turns: usize, contestants: &[&dyn Fn()]) -> Vec<f64> {
     let counts: Vec<usize> = contestants.iter().map(|call| calls(*call)).collect();
-    let mut best = vec![f64::INFINITY; contestants.len()];
+    let mut taken = vec![vec![]; contestants.len()];
     for _ in 0..turns {
         for (i, call) in contestants.iter().enumerate() {
             clear_upper_halves();
             time(call, WARM);
-            best[i] = best[i].min(time(call, counts[i]) / counts[i] as f64);
+            taken[i].push(time(call, counts[i]) / counts[i] as f64);
         }
     }
-    best
+    let middle = |mut times: Vec<f64>| {
+        times.sort_by(f64::total_cmp);
+        times[times.len() / 2]
+    };
+    taken.into_iter().map(middle).collect()
 }

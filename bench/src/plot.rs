@@ -1,7 +1,7 @@
 //! The plot: the rate of an encode over n and over B, at each level and of ISA-L's functions, as two panels of one SVG.
 
 use crate::isal::Isal;
-use crate::measure::best;
+use crate::measure::middle;
 use crate::processor;
 use crate::shelf::{Level, Stripe, AVX2, AVX512, BLOCK, LARGEST, OLDEST};
 use crate::verify;
@@ -118,7 +118,7 @@ pub fn svg(levels: &[&'static Level], isal: Option<Isal>) -> String {
     let shapes: Vec<(usize, usize)> = DISKS.map(|n| (n, BLOCK)).into_iter().chain(BLOCKS.map(|b| (EIGHT, b))).collect();
     let points = points(levels, isal.as_ref(), &shapes);
     // all of them take turns, so that a slow spell of the machine does not bend one line
-    let seconds = best(TURNS, &points.iter().map(|point| &*point.run).collect::<Vec<_>>());
+    let seconds = middle(TURNS, &points.iter().map(|point| &*point.run).collect::<Vec<_>>());
     let measured: Vec<_> =
         points.iter().zip(seconds).map(|(p, taken)| (p.name, p.shape, (p.shape.0 * p.shape.1) as f64 / taken / 1e9)).collect();
 

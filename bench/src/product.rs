@@ -1,7 +1,7 @@
 //! Products of two bytes, one at a time.
 
 use crate::isal;
-use crate::measure::{best, TURNS};
+use crate::measure::{middle, TURNS};
 use outside::field;
 use outside::random::Random;
 use std::hint::black_box;
@@ -90,11 +90,11 @@ pub fn print() {
     }
     let [apart, in_turn] = [apart, in_turn].map(|way: fn(Product, &[(u8, u8)])| {
         let runs: Vec<_> = contestants.iter().map(|&(_, product)| move || way(product, pairs)).collect();
-        best(TURNS, &runs.iter().map(|run| run as &dyn Fn()).collect::<Vec<_>>())
+        middle(TURNS, &runs.iter().map(|run| run as &dyn Fn()).collect::<Vec<_>>())
     });
 
     println!("Products of two bytes. Each is a call of a function, through a pointer, and the call is timed with it. The 65,536");
-    println!("pairs of bytes come in no order, the same for all; best of {TURNS} turns, the functions taking turns as above. In turn: the");
+    println!("pairs of bytes come in no order, the same for all; the middle one of {TURNS} turns, the functions taking turns as above. In turn: the");
     println!("product before is added to the second factor, so that no call begins before the last has ended. Each product was first");
     println!("found equal to that of the independent implementation. The way by powers and logarithms adds two exponents modulo 255,");
     println!("with two tables of 255 bytes. Reached is the library's rate as a part of the row's.");

@@ -1,6 +1,6 @@
 //! The reading of the longest roster: 257 serials of 20 characters.
 
-use crate::measure::{best, TURNS};
+use crate::measure::{middle, TURNS};
 use outside::random::Random;
 use outside::roster::{lent, read, text, LONGEST, MOST};
 use outside::rosters::{characters, CHARACTERS};
@@ -34,10 +34,10 @@ pub fn print() {
         assert!(lent(text, &ends[..slots]) == *serials, "a reading is wrong; serials {name}");
     }
     let runs = texts.each_ref().map(|text| move || _ = proved(text));
-    let seconds = best(TURNS, &runs.each_ref().map(|run| run as &dyn Fn()));
+    let seconds = middle(TURNS, &runs.each_ref().map(|run| run as &dyn Fn()));
 
     println!(
-        "Readings of a roster with {MOST} lines of {LONGEST} characters; best of {TURNS} turns, the two taking turns as above. Each serial"
+        "Readings of a roster with {MOST} lines of {LONGEST} characters; the middle one of {TURNS} turns, the two taking turns as above. Each serial"
     );
     println!("is compared with all before it. Each reading was first found equal to that of the independent implementation.");
     println!();

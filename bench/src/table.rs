@@ -2,7 +2,7 @@
 
 use crate::isal::{self, Isal};
 use crate::linux::{self, Linux};
-use crate::measure::{best, CALLS, TURN, TURNS, WARM};
+use crate::measure::{middle, CALLS, TURN, TURNS, WARM};
 use crate::shelf::{Level, Stripe, AVX2, AVX512, BLOCK, LARGEST, OLDEST};
 use crate::{plain, processor, two_disks, verify, verify_check};
 use outside::random::Random;
@@ -228,7 +228,10 @@ fn time(row: Option<&Row>) -> String {
 }
 
 fn introduce(levels: &[&Level], isal: Option<&Isal>, linux: Option<Linux>) {
-    println!("Processor: {}. One thread; best of {TURNS} turns, the calls taking turns. A turn begins with {WARM} calls that", processor());
+    println!(
+        "Processor: {}. One thread; the middle one of {TURNS} turns, the calls taking turns. A turn begins with {WARM} calls that",
+        processor()
+    );
     println!("are not timed, so that the caches are as the call itself leaves them, and goes on for {} ms, at least", TURN * 1000.0);
     println!("{CALLS} calls. Each result was first found equal to that of the independent implementation.");
     println!("Each stripe holds random bytes, begins on a page and is the same for all calls of its n and B. Buffers were not");
@@ -250,7 +253,7 @@ fn introduce(levels: &[&Level], isal: Option<&Isal>, linux: Option<Linux>) {
 pub fn print(levels: &[&'static Level], isal: Option<Isal>, linux: Option<Linux>) {
     let mut random = Random::new(1);
     let mut all: Vec<Row> = SHAPES.into_iter().flat_map(|(n, b)| rows(&mut random, levels, isal.as_ref(), linux, n, b)).collect();
-    let seconds = best(TURNS, &all.iter().map(|row| &*row.run).collect::<Vec<_>>());
+    let seconds = middle(TURNS, &all.iter().map(|row| &*row.run).collect::<Vec<_>>());
     for (row, seconds) in all.iter_mut().zip(seconds) {
         row.seconds = seconds;
     }
