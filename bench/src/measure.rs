@@ -21,7 +21,7 @@ fn time(call: &dyn Fn(), count: usize) -> f64 {
     start.elapsed().as_secs_f64()
 }
 
-/// Clears the upper halves of the vector registers. Some peers leave them in use, which slows down SSE code that comes after.
+/// Clears the upper halves of the vector registers. Some peers leave them in use, which can slow down SSE code that comes after.
 fn clear_upper_halves() {
     #[target_feature(enable = "avx")]
     fn clear() {
