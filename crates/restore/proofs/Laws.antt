@@ -1,7 +1,8 @@
--- What a plan makes of a stripe that has its roles, and encode as a rebuild of both parities.
+-- What a plan makes of a stripe that has its roles, column after column, and encode as a rebuild of both parities.
 -- Assumes nothing.
 use mathlib.Core.Path.{_≡_, sym, ap₂, _∙_}
-use Prim.Native.Nat.{ℕ, _+_}
+use Prim.Native.Nat.{ℕ, _+_, _-_, _≤_, min}
+use native.Mathlib.Omega.{arith}
 use mathlib.Core.List.{List}
 use Rattle.gf256.specs.Field.{element, sum}
 use Rattle.gf256.proofs.Laws.{zero-product, sum-zero}
@@ -9,16 +10,44 @@ use Rattle.column.specs.Column.{Column, parityQ, syndromeP, encodeColumn, reedS
 use Rattle.losses.specs.declared.Plan.{Plan}
 use Rattle.losses.specs.declared.Rule.the-variants.{Carried}
 use Rattle.losses.specs.Losses.{without, solved, restoredBy, KnownPlan}
+use Rattle.losses.proofs.Again.{restored-again}
 use Rattle.losses.proofs.Without.{solved-as, parities-lost}
 use Rattle.shape.specs.declared.Geometry.{Geometry}
 use Rattle.shape.specs.Layout.{lift}
 use Rattle.shape.specs.Refusals.{WellShaped}
+use Rattle.shape.specs.Columns.{ColumnsMapped}
 use Rattle.shape.proofs.Accepts.{shape-accepts}
+use Rattle.shape.proofs.Columns.{columns-none, columns-count, columns-again, columns-all}
 use Rattle.parts.proofs.Laws.{known-true}
 use Rattle.restore.specs.Restore.{restored}
 
 pub restored-is : (g : Geometry) (plan : Plan) (s : List ℕ) → WellShaped g s → KnownPlan (g .n) plan → restored g plan s ≡ lift g (λ i c. restoredBy (g .n) plan c) s
 restored-is g plan s shaped h = rw (shape-accepts g s shaped, known-true (g .n) plan h)
+
+-- the first `done` columns are restored: what each loop keeps
+pub record Begun (g : Geometry) (plan : Plan) (done : ℕ) (s t : List ℕ) : Type 0 where
+  pub within : done ≤ g .b
+  pub columns : ColumnsMapped g 0 done (λ j c. restoredBy (g .n) plan c) s t
+
+module _ {g : Geometry} {plan : Plan} {s : List ℕ} where
+  pub begun-none : Begun g plan 0 s s
+  begun-none = record { within = omega arith; columns = columns-none }
+
+  -- w columns more, of which the first may have been restored before
+  pub begun-next : {w done i : ℕ} {t u : List ℕ} → w ≤ g .b → i ≡ min done (g .b - w) → Begun g plan done s t
+      → ColumnsMapped g i w (λ j c. restoredBy (g .n) plan c) t u
+      → Begun g plan (i + w) s u
+  begun-next fits next begun step =
+      record {
+        within = omega (arith, fits, next);
+        columns =
+            columns-again (omega arith) (omega (arith, next)) (omega (arith, fits, next, begun .within)) (omega (arith, fits, next)) (restored-again (g .n) plan) (begun .columns)
+            step;
+      }
+
+  pub begun-all : {done : ℕ} {t : List ℕ} → WellShaped g s → g .b ≤ done → Begun g plan done s t
+      → t ≡ lift g (λ i c. restoredBy (g .n) plan c) s
+  begun-all shaped over begun = columns-all shaped (columns-count (omega (arith, over, begun .within)) (begun .columns))
 
 -- encode is a rebuild of both parities
 pub encode-solved : (n : ℕ) (c : Column) → solved n n (n + 1) (Carried (element 0)) c ≡ encodeColumn reedSolomon n c

@@ -106,7 +106,8 @@ fn set_solved(
     stretch::set(g, stripe, x, i, WIDTH, on_x);
 }
 
-// By whole chunks, of which the last may take columns again: what was lost comes out the same.
+// By whole chunks, of which the last may take columns again: what was lost comes out the same. Each plan has
+// its own loop, so that it is not asked for again at each chunk.
 fn restore_columns(g: Geometry, stripe: &mut [u8], plan: Plan)
     requires { ⌜ WellShaped g (now stripe) × KnownPlan (g .n) plan ⌝ }
     ensures { λ _. ⌜ now (stripe .exit) ≡ lift g (λ i c. restoredBy (g .n) plan c) (now (stripe .entry)) ⌝ }
@@ -115,22 +116,46 @@ fn restore_columns(g: Geometry, stripe: &mut [u8], plan: Plan)
         parts::restore_part(g, stripe, plan);
         return;
     }
+    match plan {
+        Plan::ByP(x) => columns_by_p(g, stripe, x),
+        Plan::FromData(both) => columns_from_data(g, stripe, both),
+        Plan::ByBoth(x, y, rule) => columns_by_both(g, stripe, x, y, rule),
+    }
+}
+
+fn columns_by_p(g: Geometry, stripe: &mut [u8], x: usize)
+    requires { ⌜ WellShaped g (now stripe) × (width ≤ g .b) × (x < g .n + 2) ⌝ }
+    ensures { λ _. ⌜ now (stripe .exit) ≡ lift g (λ i c. restoredBy (g .n) (Plan.ByP x) c) (now (stripe .entry)) ⌝ }
+{
     let mut done = 0;
     while done < g.b {
         let i = stretch::next_start(g.b, WIDTH, done);
-        restore_chunk(g, stripe, i, plan);
+        restore_by_p(g, stripe, i, x);
         done = i + WIDTH;
     }
 }
 
-fn restore_chunk(g: Geometry, stripe: &mut [u8], i: usize, plan: Plan)
-    requires { ⌜ Has g (now stripe) i width × KnownPlan (g .n) plan ⌝ }
-    ensures { λ _. ⌜ ColumnsMapped g i width (λ j c. restoredBy (g .n) plan c) (now (stripe .entry)) (now (stripe .exit)) ⌝ }
+fn columns_from_data(g: Geometry, stripe: &mut [u8], both: bool)
+    requires { ⌜ WellShaped g (now stripe) × (width ≤ g .b) ⌝ }
+    ensures { λ _. ⌜ now (stripe .exit) ≡ lift g (λ i c. restoredBy (g .n) (Plan.FromData both) c) (now (stripe .entry)) ⌝ }
 {
-    match plan {
-        Plan::ByP(x) => restore_by_p(g, stripe, i, x),
-        Plan::FromData(both) => restore_from_data(g, stripe, i, both),
-        Plan::ByBoth(x, y, rule) => restore_by_both(g, stripe, i, x, y, rule),
+    let mut done = 0;
+    while done < g.b {
+        let i = stretch::next_start(g.b, WIDTH, done);
+        restore_from_data(g, stripe, i, both);
+        done = i + WIDTH;
+    }
+}
+
+fn columns_by_both(g: Geometry, stripe: &mut [u8], x: usize, y: usize, rule: Rule)
+    requires { ⌜ WellShaped g (now stripe) × (width ≤ g .b) × (x < g .n + 2) × (y < g .n + 2) ⌝ }
+    ensures { λ _. ⌜ now (stripe .exit) ≡ lift g (λ i c. solved (g .n) x y rule c) (now (stripe .entry)) ⌝ }
+{
+    let mut done = 0;
+    while done < g.b {
+        let i = stretch::next_start(g.b, WIDTH, done);
+        restore_by_both(g, stripe, i, x, y, rule);
+        done = i + WIDTH;
     }
 }
 

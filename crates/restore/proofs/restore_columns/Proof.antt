@@ -1,79 +1,78 @@
--- `restore::restore_columns` meets its contract. The loop's invariant: the first `done` columns are restored. The measure is what is left.
+-- `restore::restore_columns` meets its contract, by the plan's cases.
 -- Assumes nothing.
 use borrow.Author.Needs.{needs}
 use mathlib.Core.Path.{_∙_}
-use Prim.Native.Nat.{_-_, _≤_}
 use native.Mathlib.Omega.{arith}
-use Rattle.losses.specs.Losses.{restoredBy}
-use Rattle.losses.proofs.Again.{restored-again}
-use Rattle.shape.specs.Columns.{ColumnsMapped}
-use Rattle.shape.proofs.Columns.{shaped-same, columns-none, columns-count, columns-again, columns-all}
 use Rattle.stretch.specs.Stretch.{Has}
 use Rattle.parts.proofs.Laws.{part-is}
 use Rattle.restore.proofs.restore_columns.Statement.{statement}
 use Rattle.restore.proofs.restore_columns.Tie as tie
 
-abbrev Inv-loop : tie.InvT-loop
-Inv-loop g stripe₀ plan done₀ stripe done = (done ≤ g .b) × ColumnsMapped g 0 done (λ j c. restoredBy (g .n) plan c) stripe₀ stripe
-
-abbrev μ-loop : tie.MeasureT-loop
-μ-loop g stripe₀ plan done₀ stripe done = g .b - done
-
-restore-part-requires : tie.Need-restore-part-requires Inv-loop μ-loop
+restore-part-requires : tie.Need-restore-part-requires
 restore-part-requires c κs = search needs
 
-same-length : tie.Need-same-length Inv-loop μ-loop
+same-length : tie.Need-same-length
 same-length c = c .before .before .restore-part .kept .1 .0
 
-returns : tie.Need-returns Inv-loop μ-loop
+returns : tie.Need-returns
 returns c =
     let here = c .before .before .before .before .before .before .before in
     let a = here .args in
     let whole : Has (a .g) (a .stripe .now) 0 (a .g .b) = record { shaped = here .pre .0; fits = omega arith; held = omega arith } in
     c .before .before .restore-part .ensures ∙ part-is (a .g) (a .plan) (a .stripe .now) whole (here .pre .1)
 
-loop-holds : tie.Need-loop-holds Inv-loop μ-loop
-loop-holds c = (omega arith, columns-none)
+enum-known-plan : tie.Need-enum-known-plan
+enum-known-plan c = search needs
 
-next-start-requires : tie.Need-next-start-requires Inv-loop μ-loop
-next-start-requires c κs = search needs
+columns-by-p-requires : tie.Need-columns-by-p-requires
+columns-by-p-requires c κs = let pre = c .before .before .before .before .before .before .before .pre in (pre .0, omega arith, rw (c .before .before .plan .given .1) at (pre .1))
 
-restore-chunk-requires : tie.Need-restore-chunk-requires Inv-loop μ-loop
-restore-chunk-requires c κs = let pre = c .before .before .before .before .before .before .before .before .pre in (record { shaped = shaped-same (pre .0) (c .before .before .before .before .loop .inv .1 .kept); fits = omega (arith, c .before .next-start .ensures); held = omega arith }, pre .1)
+enum-known-plan-2 : tie.Need-enum-known-plan-2
+enum-known-plan-2 c = search needs
 
-add-done : tie.Need-add-done Inv-loop μ-loop
-add-done c = omega (arith, c .before .before .before .before .next-start .ensures, c .before .before .before .before .before .before .before .before .before .before .before .pre .0 .block)
+columns-from-data-requires : tie.Need-columns-from-data-requires
+columns-from-data-requires c κs = search needs
 
-loop-less : tie.Need-loop-less Inv-loop μ-loop
-loop-less c = omega (arith, c .before .before .before .before .next-start .ensures)
+enum-known-plan-3 : tie.Need-enum-known-plan-3
+enum-known-plan-3 c = search needs
 
-loop-again : tie.Need-loop-again Inv-loop μ-loop
-loop-again c =
-    let a = c .before .before .before .before .before .before .before .before .before .before .before .args in
-    let l = c .before .before .before .before .before .before .before .loop in
-    let chunk = c .before .before .before .before .next-start .ensures in
-    (omega (arith, chunk), columns-again (omega arith) (omega (arith, chunk)) (omega (arith, chunk)) (omega (arith, chunk)) (restored-again (a .g .n) (a .plan)) (l .inv .1) (c .before .before .restore-chunk .ensures))
+columns-by-both-requires : tie.Need-columns-by-both-requires
+columns-by-both-requires c κs = let pre = c .before .before .before .before .before .before .before .pre in let roles = rw (c .before .before .plan3 .given .1) at (pre .1) in (pre .0, omega arith, omega (arith, roles), omega (arith, roles))
 
-same-length-2 : tie.Need-same-length-2 Inv-loop μ-loop
-same-length-2 c = c .before .before .loop .inv .1 .kept
+same-length-2 : tie.Need-same-length-2
+same-length-2 c = c .before .before .columns-by-p .kept .1 .0
 
-returns-2 : tie.Need-returns-2 Inv-loop μ-loop
-returns-2 c = let l = c .before .before .loop in columns-all (c .before .before .before .before .before .before .pre .0) (columns-count (omega (arith, l .inv .0)) (l .inv .1))
+returns-2 : tie.Need-returns-2
+returns-2 c = rw (c .before .before .before .before .before .plan .given .1) (c .before .before .columns-by-p .ensures)
+
+same-length-3 : tie.Need-same-length-3
+same-length-3 c = c .before .before .columns-from-data .kept .1 .0
+
+returns-3 : tie.Need-returns-3
+returns-3 c = rw (c .before .before .before .before .before .plan2 .given .1) (c .before .before .columns-from-data .ensures)
+
+same-length-4 : tie.Need-same-length-4
+same-length-4 c = c .before .before .columns-by-both .kept .1 .0
+
+returns-4 : tie.Need-returns-4
+returns-4 c = rw (c .before .before .before .before .before .plan3 .given .1) (c .before .before .columns-by-both .ensures)
 
 pub restore-columns-spec : {M : Type 1} → statement M
 restore-columns-spec =
     tie.close
     (tie.spec
-    Inv-loop
-    μ-loop
     restore-part-requires
     same-length
     returns
-    loop-holds
-    next-start-requires
-    restore-chunk-requires
-    add-done
-    loop-less
-    loop-again
+    enum-known-plan
+    columns-by-p-requires
+    enum-known-plan-2
+    columns-from-data-requires
+    enum-known-plan-3
+    columns-by-both-requires
     same-length-2
-    returns-2)
+    returns-2
+    same-length-3
+    returns-3
+    same-length-4
+    returns-4)

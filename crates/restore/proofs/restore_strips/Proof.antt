@@ -1,32 +1,28 @@
 -- `restore::restore_strips` meets its contract. The loop's invariant: the first `done` columns are restored. The measure is what is left.
 -- Assumes nothing.
 use borrow.Author.Needs.{needs}
-use Prim.Native.Nat.{_-_, _≤_}
+use Prim.Native.Nat.{_-_}
 use native.Mathlib.Omega.{arith}
 use Rattle.losses.specs.declared.Plan.the-variants.{ByBoth}
-use Rattle.losses.specs.Losses.{solved}
-use Rattle.losses.proofs.Again.{restored-again}
-use Rattle.shape.specs.Columns.{ColumnsMapped}
-use Rattle.shape.proofs.Columns.{shaped-same, columns-none, columns-count, columns-again, columns-all}
+use Rattle.shape.proofs.Columns.{shaped-same}
+use Rattle.restore.proofs.Laws.{Begun, begun-none, begun-next, begun-all}
 use Rattle.restore.proofs.restore_strips.Statement.{statement}
 use Rattle.restore.proofs.restore_strips.Tie as tie
 
 abbrev Inv-loop : tie.InvT-loop
-Inv-loop g stripe₀ x y rule done₀ stripe done = (done ≤ g .b) × ColumnsMapped g 0 done (λ j c. solved (g .n) x y rule c) stripe₀ stripe
+Inv-loop g stripe₀ x y rule done₀ stripe done = Begun g (ByBoth x y rule) done stripe₀ stripe
 
 abbrev μ-loop : tie.MeasureT-loop
 μ-loop g stripe₀ x y rule done₀ stripe done = g .b - done
 
 loop-holds : tie.Need-loop-holds Inv-loop μ-loop
-loop-holds c = (omega arith, columns-none)
+loop-holds c = begun-none
 
 next-start-requires : tie.Need-next-start-requires Inv-loop μ-loop
 next-start-requires c κs = search needs
 
 restore-strip-requires : tie.Need-restore-strip-requires Inv-loop μ-loop
-restore-strip-requires c κs =
-    let pre = c .before .before .before .before .before .before .pre in
-    (record { shaped = shaped-same (pre .0) (c .before .before .before .before .loop .inv .1 .kept); fits = omega (arith, pre .1, c .before .next-start .ensures) }, pre .2, pre .3)
+restore-strip-requires c κs = let pre = c .before .before .before .before .before .before .pre in (record { shaped = shaped-same (pre .0) (c .before .before .before .before .loop .inv .columns .kept); fits = omega (arith, pre .1, c .before .next-start .ensures) }, pre .2, pre .3)
 
 add-done : tie.Need-add-done Inv-loop μ-loop
 add-done c = let pre = c .before .before .before .before .before .before .before .before .before .pre in omega (arith, pre .1, c .before .before .before .before .next-start .ensures, pre .0 .block)
@@ -35,18 +31,13 @@ loop-less : tie.Need-loop-less Inv-loop μ-loop
 loop-less c = omega (arith, c .before .before .before .before .before .before .before .before .before .pre .1, c .before .before .before .before .next-start .ensures)
 
 loop-again : tie.Need-loop-again Inv-loop μ-loop
-loop-again c =
-    let here = c .before .before .before .before .before .before .before .before .before in
-    let a = here .args in
-    let least = here .pre .1 in
-    let next = c .before .before .before .before .next-start .ensures in
-    (omega (arith, least, next), columns-again (omega arith) (omega (arith, least, next)) (omega (arith, least, next)) (omega (arith, least, next)) (restored-again (a .g .n) (ByBoth (a .x) (a .y) (a .rule))) (c .before .before .before .before .before .before .before .loop .inv .1) (c .before .before .restore-strip .ensures))
+loop-again c = begun-next (c .before .before .before .before .before .before .before .before .before .pre .1) (c .before .before .before .before .next-start .ensures) (c .before .before .before .before .before .before .before .loop .inv) (c .before .before .restore-strip .ensures)
 
 same-length : tie.Need-same-length Inv-loop μ-loop
-same-length c = c .before .before .loop .inv .1 .kept
+same-length c = c .before .before .loop .inv .columns .kept
 
 returns : tie.Need-returns Inv-loop μ-loop
-returns c = let l = c .before .before .loop in columns-all (c .before .before .before .before .pre .0) (columns-count (omega (arith, l .inv .0)) (l .inv .1))
+returns c = begun-all (c .before .before .before .before .pre .0) (omega arith) (c .before .before .loop .inv)
 
 pub restore-strips-spec : {M : Type 1} → statement M
 restore-strips-spec =
