@@ -1,11 +1,13 @@
--- Where the columns of a disk stand, and one disk more. All disks: the highest, and those below it. The disks of a group in three runs: above the
--- higher of two lost ones, between both and below, each lost one as 00.
+-- Where the columns of a disk stand, and one disk more. All disks: the highest, and those below it. The disks of a group in one run, or in three:
+-- above the higher of two lost ones, between both and below, each lost one as 00.
 -- Assumes nothing.
 use mathlib.Core.Path.{_≡_, refl, sym, ap, _∙_}
 use mathlib.Core.Logic.{_⊎_, inr, ⊎-elim}
+use mathlib.Core.Bool.{true, true≢false}
 use mathlib.Core.List.{List}
 use Prim.Native.Nat.{ℕ, suc, _+_, _-_, _≤_, _<_}
 use native.Mathlib.Omega.{arith}
+use borrow.Author.Tests.{le-ltb, lt-leb}
 use lib.ListN.{length, getD, take, drop, replicate}
 use Rattle.base.proofs.Table.{tabulate-same}
 use Rattle.chunk.specs.Chunk.{width, each, plus, doublePlus}
@@ -18,7 +20,7 @@ use Rattle.shape.proofs.Stretch.{block-start, before-start, stretch-inside, par
 use Rattle.stretch.specs.Stretch.{Has, columnOf}
 use Rattle.stretch.proofs.Laws.{column-of}
 use Rattle.sums.specs.Sums.{Tails, DisksAdded, AddedAbove}
-use Rattle.sums.specs.Strip.{AddedWithin}
+use Rattle.sums.specs.Strip.{outside, AddedWithin}
 use Rattle.sums.proofs.Horner.{tails-none, tails-more}
 
 -- where the columns of a disk stand
@@ -79,6 +81,18 @@ within-all above =
       above = omega arith;
       sums = λ f agrees zero tails. above .sums f (λ j k l from to. agrees j k l (omega arith) (omega arith) to) zero tails;
     }
+
+-- a group without a lost disk is one run
+is-other : {x from to k : ℕ} → outside x from to ≡ true → from ≤ k → k < to → k ≡ x → ⊥
+is-other {x} {from} {to} out low high e = true≢false (sym out ∙ simp (le-ltb x from (omega arith), lt-leb to x (omega arith)))
+
+pub plain-added : {g : Geometry} {s : List ℕ} {i : ℕ} (x y : ℕ) {from to : ℕ} {p q p′ q′ : List ℕ} → Has g s i width → outside x from to ≡ true → outside y from to ≡ true
+    → DisksAdded g i from to s p q p′ q′
+    → Tails (g .n) to (λ j. without x y (columnOf g s i width j)) p q
+    → Tails (g .n) from (λ j. without x y (columnOf g s i width j)) p′ q′
+plain-added {g} {s} {i} x y h not-x not-y run =
+    let e = columnOf g s i width in
+    run (λ j. without x y (e j)) λ j k l low high. without-other x y (e j) k (is-other not-x low high) (is-other not-y low high) ∙ ap (λ (r : Column). r k) (column-of h j l)
 
 -- the lower and the higher of x and y
 abbrev Lower : ℕ → ℕ → ℕ → Type 0

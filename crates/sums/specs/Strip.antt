@@ -6,7 +6,7 @@ use mathlib.Core.Bool.{Bool}
 use mathlib.Core.List.{List}
 use lib.Dec.{eqb, ltb, leb}
 use lib.ListN.{length}
-use Rattle.base.specs.Choice.{choose, both}
+use Rattle.base.specs.Choice.{choose, both, either}
 use Rattle.base.specs.Table.{tabulate}
 use Rattle.chunk.specs.Chunk.{width}
 use Rattle.column.specs.Column.{Column, syndromeP, syndromeQ, reedSolomon}
@@ -57,6 +57,14 @@ stageQ n k c = choose (eqb k 0) (syndromeQ reedSolomon n c) (tailQ n k c)
 pub record Stage (w n k : ℕ) (f : ℕ → Column) (p q : List ℕ) : Type 0 where
   pub first : p ≡ tabulate w (λ j. stageP n k (f j))
   pub second : q ≡ tabulate w (λ j. stageQ n k (f j))
+
+-- a role is none of those from `from` to below `to`
+abbrev pub outside : ℕ → ℕ → ℕ → Bool
+outside role from to = either (ltb role from) (leb to role)
+
+-- neither x nor y is, and there are disks below these
+abbrev pub plainGroup : ℕ → ℕ → ℕ → ℕ → Bool
+plainGroup x y from to = both (outside x from to) (both (outside y from to) (ltb 0 from))
 
 -- a group of disks is added to those above it
 abbrev pub GroupAdded : Geometry → ℕ → ℕ → ℕ → ℕ → ℕ → List ℕ → List ℕ → List ℕ → List ℕ → List ℕ → Type 0

@@ -9,7 +9,7 @@ ghost use Rattle.chunk.specs.Chunk.{width, each};
 ghost use Rattle.losses.specs.Losses.{without, byP};
 ghost use Rattle.stretch.specs.Stretch.{Has, columnOf};
 ghost use Rattle.sums.specs.Sums.{paritiesOf, sumsOf, DisksAdded, AddedAbove};
-ghost use Rattle.sums.specs.Strip.{strip, inStrips, hasStrip, HasStrip, stripColumn, StripSummed, Stage, GroupAdded, AddedWithin};
+ghost use Rattle.sums.specs.Strip.{strip, inStrips, hasStrip, HasStrip, stripColumn, StripSummed, Stage, outside, plainGroup, GroupAdded, AddedWithin};
 
 // Both sums of a chunk of columns.
 pub struct Sums {
@@ -288,7 +288,8 @@ fn add_to_strip(
     }
 }
 
-// The disks below `to` down to `from` without x and y, and after the last disk the stored parities.
+// The disks below `to` down to `from` without x and y, and after the last disk the stored parities. Most groups have neither
+// and are one run.
 fn add_group(
     g: Geometry,
     stripe: &[u8],
@@ -303,6 +304,10 @@ fn add_group(
     requires { ⌜ Has g (now stripe) i width × (from ≤ to) × (to ≤ g .n) ⌝ }
     ensures { λ _. ⌜ GroupAdded g i x y from to (now (stripe .entry)) (now (p .entry)) (now (q .entry)) (now (p .exit)) (now (q .exit)) ⌝ }
 {
+    if is_plain(x, y, from, to) {
+        add_disks(g, stripe, i, from, to, p, q);
+        return;
+    }
     let k = add_within(g, stripe, i, higher(x, y), from, to, p, q);
     let k = add_within(g, stripe, i, lower(x, y), from, k, p, q);
     add_disks(g, stripe, i, from, k, p, q);
@@ -312,6 +317,28 @@ fn add_group(
         let d = load_but(g, stripe, g.n + 1, i, WIDTH, x, y);
         chunk::add(q, &d);
     }
+}
+
+// Whether a group has neither x nor y and is not the last.
+fn is_plain(x: usize, y: usize, from: usize, to: usize) -> bool
+    ensures { λ r. ⌜ r ≡ plainGroup x y from to ⌝ }
+{
+    if !is_outside(x, from, to) {
+        return false;
+    }
+    if !is_outside(y, from, to) {
+        return false;
+    }
+    0 < from
+}
+
+fn is_outside(role: usize, from: usize, to: usize) -> bool
+    ensures { λ r. ⌜ r ≡ outside role from to ⌝ }
+{
+    if role < from {
+        return true;
+    }
+    to <= role
 }
 
 // Those above a lost disk and the lost one as 00, if it is one of them. The first that is done.
