@@ -24,8 +24,7 @@ const COLOURS: [(&str, &str); 6] = [
 ];
 
 const TURNS: usize = 40;
-/// The most of the axis of rates, and the steps between its lines, in gigabytes of data a second.
-const MOST: f64 = 80.0;
+/// The steps between the lines of the axis of rates, in gigabytes of data a second.
 const STEP: usize = 10;
 
 const WIDTH: f64 = 330.0;
@@ -65,6 +64,8 @@ fn points(levels: &[&'static Level], isal: Option<&Isal>, shapes: &[(usize, usiz
 struct Panel {
     left: f64,
     most: f64,
+    /// The highest line of the axis of rates.
+    top: usize,
     title: &'static str,
     ticks: &'static [usize],
 }
@@ -76,12 +77,12 @@ impl Panel {
     }
 
     fn y(&self, rate: f64) -> f64 {
-        TOP + HEIGHT - rate / MOST * HEIGHT
+        TOP + HEIGHT - rate / self.top as f64 * HEIGHT
     }
 
     fn axes(&self, svg: &mut String) {
         let (left, right, bottom) = (self.left, self.left + WIDTH, TOP + HEIGHT);
-        for rate in (0..=MOST as usize).step_by(STEP) {
+        for rate in (0..=self.top).step_by(STEP) {
             let y = self.y(rate as f64);
             writeln!(svg, "<path d='M{left} {y:.1}H{right}' stroke='#ddd'/>").unwrap();
             writeln!(svg, "<text x='{}' y='{:.1}' text-anchor='end'>{rate}</text>", left - 6.0, y + 4.0).unwrap();
@@ -121,14 +122,17 @@ pub fn svg(levels: &[&'static Level], isal: Option<Isal>) -> String {
     let seconds = middle(TURNS, &points.iter().map(|point| &*point.run).collect::<Vec<_>>());
     let measured: Vec<_> =
         points.iter().zip(seconds).map(|(p, taken)| (p.name, p.shape, (p.shape.0 * p.shape.1) as f64 / taken / 1e9)).collect();
+    let highest = measured.iter().map(|m| m.2).fold(0.0, f64::max);
+    let top = (highest as usize / STEP + 1) * STEP;
 
     let mut svg = String::from("<svg xmlns='http://www.w3.org/2000/svg' viewBox='0 0 920 460' font-family='sans-serif' font-size='12'>\n");
     svg += "<rect width='920' height='460' fill='#fff'/>\n";
     writeln!(svg, "<text x='20' y='24' font-size='15'>Gigabytes of data encoded in a second, {}, one thread</text>", processor()).unwrap();
-    let over_n = Panel { left: 75.0, most: 255.0, title: "n, data disks, with B = 4096", ticks: &[1, 2, 4, 8, 16, 32, 64, 128, 255] };
+    let over_n = Panel { left: 75.0, most: 255.0, top, title: "n, data disks, with B = 4096", ticks: &[1, 2, 4, 8, 16, 32, 64, 128, 255] };
     let over_b = Panel {
         left: 520.0,
         most: LARGEST as f64,
+        top,
         title: "B, bytes in a block, with n = 8",
         ticks: &[1, 4, 16, 64, 256, 1024, 4096, LARGEST],
     };
