@@ -17,7 +17,9 @@ use Rattle.shape.specs.Layout.{lift}
 use Rattle.shape.specs.Refusals.{WellShaped}
 use Rattle.shape.specs.Columns.{ColumnsMapped}
 use Rattle.shape.proofs.Accepts.{shape-accepts}
-use Rattle.shape.proofs.Columns.{columns-none, columns-count, columns-again, columns-all}
+use Rattle.shape.proofs.Columns.{shaped-same, columns-none, columns-count, columns-again, columns-all}
+use Rattle.chunk.specs.Chunk.{width}
+use Rattle.stretch.specs.Stretch.{Has}
 use Rattle.parts.proofs.Laws.{known-true}
 use Rattle.restore.specs.Restore.{restored}
 
@@ -32,6 +34,11 @@ pub record Begun (g : Geometry) (plan : Plan) (done : ℕ) (s t : List ℕ) : Ty
 module _ {g : Geometry} {plan : Plan} {s : List ℕ} where
   pub begun-none : Begun g plan 0 s s
   begun-none = record { within = omega arith; columns = columns-none }
+
+  -- the next chunk lies within the stripe
+  pub begun-chunk : {done i : ℕ} {t : List ℕ} → WellShaped g s → width ≤ g .b → i ≡ min done (g .b - width) → Begun g plan done s t → Has g t i width
+  begun-chunk shaped fits next begun =
+      record { shaped = shaped-same shaped (begun .columns .kept); fits = omega (arith, fits, next); held = omega arith }
 
   -- w columns more, of which the first may have been restored before
   pub begun-next : {w done i : ℕ} {t u : List ℕ} → w ≤ g .b → i ≡ min done (g .b - w) → Begun g plan done s t

@@ -82,6 +82,10 @@ within-all above =
       sums = λ f agrees zero tails. above .sums f (λ j k l from to. agrees j k l (omega arith) (omega arith) to) zero tails;
     }
 
+-- the byte of a role that is not lost
+not-lost : {g : Geometry} {s : List ℕ} {i : ℕ} → Has g s i width → (x y : ℕ) {j k : ℕ} → j < width → (k ≡ x → ⊥) → (k ≡ y → ⊥) → without x y (columnOf g s i width j) k ≡ column g s (i + j) k
+not-lost {g} {s} {i} h x y {j} {k} l not-x not-y = without-other x y (columnOf g s i width j) k not-x not-y ∙ ap (λ (r : Column). r k) (column-of h j l)
+
 -- a group without a lost disk is one run
 is-other : {x from to k : ℕ} → outside x from to ≡ true → from ≤ k → k < to → k ≡ x → ⊥
 is-other {x} {from} {to} out low high e = true≢false (sym out ∙ simp (le-ltb x from (omega arith), lt-leb to x (omega arith)))
@@ -91,8 +95,7 @@ pub plain-added : {g : Geometry} {s : List ℕ} {i : ℕ} (x y : ℕ) {from to :
     → Tails (g .n) to (λ j. without x y (columnOf g s i width j)) p q
     → Tails (g .n) from (λ j. without x y (columnOf g s i width j)) p′ q′
 plain-added {g} {s} {i} x y h not-x not-y run =
-    let e = columnOf g s i width in
-    run (λ j. without x y (e j)) λ j k l low high. without-other x y (e j) k (is-other not-x low high) (is-other not-y low high) ∙ ap (λ (r : Column). r k) (column-of h j l)
+    run (λ j. without x y (columnOf g s i width j)) λ j k l low high. not-lost h x y l (is-other not-x low high) (is-other not-y low high)
 
 -- the lower and the higher of x and y
 abbrev Lower : ℕ → ℕ → ℕ → Type 0
@@ -116,7 +119,7 @@ pub runs-added : {g : Geometry} {s : List ℕ} {i : ℕ} (x y : ℕ) {low high f
 runs-added {g} {s} {i} x y {low} {high} h lower higher above between below tails =
     let e = columnOf g s i width in
     let f : ℕ → Column = λ j. without x y (e j) in
-    let other : (j k : ℕ) → j < width → (k ≡ low → ⊥) → (k ≡ high → ⊥) → f j k ≡ column g s (i + j) k = λ j k l not-low not-high. let kept = neither lower higher not-low not-high in without-other x y (e j) k (kept .0) (kept .1) ∙ ap (λ (r : Column). r k) (column-of h j l) in
+    let other : (j k : ℕ) → j < width → (k ≡ low → ⊥) → (k ≡ high → ⊥) → f j k ≡ column g s (i + j) k = λ j k l not-low not-high. let kept = neither lower higher not-low not-high in not-lost h x y l (kept .0) (kept .1) in
     below f
     (λ j k l from to. other j k l (λ e. ⊎-elim (λ p. omega arith) (λ p. omega arith) (between .below)) (λ e. ⊎-elim (λ p. omega arith) (λ p. omega (arith, between .within)) (above .below)))
     (between .sums f (λ j k l from past to. other j k l (omega arith) (λ e. ⊎-elim (λ p. omega arith) (λ p. omega arith) (above .below))) (λ j l. without-lost x y (e j) low (lower .2))

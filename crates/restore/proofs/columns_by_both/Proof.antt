@@ -4,8 +4,7 @@ use borrow.Author.Needs.{needs}
 use Prim.Native.Nat.{_-_}
 use native.Mathlib.Omega.{arith}
 use Rattle.losses.specs.declared.Plan.the-variants.{ByBoth}
-use Rattle.shape.proofs.Columns.{shaped-same}
-use Rattle.restore.proofs.Laws.{Begun, begun-none, begun-next, begun-all}
+use Rattle.restore.proofs.Laws.{Begun, begun-none, begun-chunk, begun-next, begun-all}
 use Rattle.restore.proofs.columns_by_both.Statement.{statement}
 use Rattle.restore.proofs.columns_by_both.Tie as tie
 
@@ -22,7 +21,7 @@ next-start-requires : tie.Need-next-start-requires Inv-loop μ-loop
 next-start-requires c κs = search needs
 
 restore-by-both-requires : tie.Need-restore-by-both-requires Inv-loop μ-loop
-restore-by-both-requires c κs = let pre = c .before .before .before .before .before .before .pre in (record { shaped = shaped-same (pre .0) (c .before .before .before .before .loop .inv .columns .kept); fits = omega (arith, pre .1, c .before .next-start .ensures); held = omega arith }, pre .2, pre .3)
+restore-by-both-requires c κs = let pre = c .before .before .before .before .before .before .pre in (begun-chunk (pre .0) (pre .1) (c .before .next-start .ensures) (c .before .before .before .before .loop .inv), pre .2, pre .3)
 
 add-done : tie.Need-add-done Inv-loop μ-loop
 add-done c = let pre = c .before .before .before .before .before .before .before .before .before .pre in omega (arith, pre .1, c .before .before .before .before .next-start .ensures, pre .0 .block)
