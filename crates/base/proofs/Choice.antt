@@ -8,19 +8,19 @@ use native.Mathlib.Omega.{arith}
 use native.Mathlib.Decide.{dec_lt}
 use Rattle.base.specs.Choice.{both, either}
 
-pub either-false : (a b : Bool) → either a b ≡ false → (a ≡ false) × (b ≡ false)
-either-false true b e = absurd (true≢false e)
-either-false false b e = (refl, e)
+pub either_false : (a b : Bool) → either a b ≡ false → (a ≡ false) × (b ≡ false)
+either_false true b e = absurd (true≢false e)
+either_false false b e = (refl, e)
 
 pub both_true : (a b : Bool) → both a b ≡ true → (a ≡ true) × (b ≡ true)
 both_true true b e = (refl, e)
 both_true false b e = absurd (true≢false (sym e))
 
-pub either-comm : (a b : Bool) → either a b ≡ either b a
-either-comm true true = refl
-either-comm true false = refl
-either-comm false true = refl
-either-comm false false = refl
+pub either_comm : (a b : Bool) → either a b ≡ either b a
+either_comm true true = refl
+either_comm true false = refl
+either_comm false true = refl
+either_comm false false = refl
 
 pub below_or_not : (i k : ℕ) → (i < k) ⊎ (k ≤ i)
 below_or_not i k = go (dec_lt i k)

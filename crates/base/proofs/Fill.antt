@@ -12,8 +12,8 @@ use lib.ListN.{length, get_or, set, take, drop, length-set}
 use lib.Seq.{get_or-set_same, get_or-set_other}
 use Rattle.base.specs.Table.{tabulate, spliced}
 use Rattle.base.proofs.Choice.{below_or_not}
-use Rattle.base.proofs.Table.{length-tabulate, get_d_tabulate, is-tabulate}
-use Rattle.base.proofs.Splice.{length-spliced, spliced-in, spliced-low, spliced-high}
+use Rattle.base.proofs.Table.{length_tabulate, get_d_tabulate, is_tabulate}
+use Rattle.base.proofs.Splice.{length_spliced, spliced_in, spliced_low, spliced_high}
 
 -- t has n numbers, and is s with the places below k changed by f
 pub record Filled (f : ℕ → ℕ → ℕ) (n : ℕ) (s t : List ℕ) (k : ℕ) : Type 0 where
@@ -37,42 +37,42 @@ module _ {f : ℕ → ℕ → ℕ} {n : ℕ} {s : List ℕ} where
       }
 
   -- a part of which some places may be filled already
-  pub fill-over : {t m rest : List ℕ} {c : ℕ} (i k : ℕ) → Filled f n s t c → i ≤ c → c ≤ i + k → i + k ≤ n → m ≡ tabulate k (λ j. f (i + j) (get_or s (i + j) 0))
+  pub fill_over : {t m rest : List ℕ} {c : ℕ} (i k : ℕ) → Filled f n s t c → i ≤ c → c ≤ i + k → i + k ≤ n → m ≡ tabulate k (λ j. f (i + j) (get_or s (i + j) 0))
       → rest ≡ drop (i + k) t
       → Filled f n s (take i t ++ (m ++ rest)) (i + k)
-  fill-over {t} {m} {rest} {c} i k fill begins reaches h e after =
+  fill_over {t} {m} {rest} {c} i k fill begins reaches h e after =
       subst (λ (l : List ℕ). Filled f n s (take i t ++ (m ++ l)) (i + k)) (ap (λ (a : ℕ). drop (i + a) t) size ∙ sym after)
       record {
-        long = length-spliced t i m fits ∙ fill.long;
+        long = length_spliced t i m fits ∙ fill.long;
         new =
             λ j p.
-            ⊎_elim (λ l. spliced-low t i m fits j l ∙ fill.new j (omega arith))
+            ⊎_elim (λ l. spliced_low t i m fits j l ∙ fill.new j (omega arith))
             (λ l.
             ap (λ (a : ℕ). get_or (spliced t i m) a 0) (omega arith)
-            ∙ spliced-in t i m fits (j - i) (omega (arith, size))
+            ∙ spliced_in t i m fits (j - i) (omega (arith, size))
             ∙ ap (λ (l : List ℕ). get_or l (j - i) 0) e
             ∙ get_d_tabulate k (λ j. f (i + j) (get_or s (i + j) 0)) (j - i) 0 (omega arith)
             ∙ ap (λ (a : ℕ). f a (get_or s a 0)) (omega arith))
             (below_or_not j i);
-        old = λ j p. spliced-high t i m fits j (omega (arith, size)) ∙ fill.old j (omega arith);
+        old = λ j p. spliced_high t i m fits j (omega (arith, size)) ∙ fill.old j (omega arith);
       }
     where
       size : length m ≡ k
-      size = ap length e ∙ length-tabulate k (λ j. f (i + j) (get_or s (i + j) 0))
+      size = ap length e ∙ length_tabulate k (λ j. f (i + j) (get_or s (i + j) 0))
 
       fits : i + length m ≤ length t
       fits = omega (arith, size, fill.long)
 
-  pub fill-part : {t m rest : List ℕ} {i : ℕ} (k : ℕ) → Filled f n s t i → i + k ≤ n → m ≡ tabulate k (λ j. f (i + j) (get_or s (i + j) 0))
+  pub fill_part : {t m rest : List ℕ} {i : ℕ} (k : ℕ) → Filled f n s t i → i + k ≤ n → m ≡ tabulate k (λ j. f (i + j) (get_or s (i + j) 0))
       → rest ≡ drop (i + k) t
       → Filled f n s (take i t ++ (m ++ rest)) (i + k)
-  fill-part {i = i} k fill h e after = fill-over i k fill (le_refl i) (omega arith) h e after
+  fill_part {i = i} k fill h e after = fill_over i k fill (le_refl i) (omega arith) h e after
 
   -- the rule changes nothing from k on
-  pub fill-rest : {t : List ℕ} {k : ℕ} → Filled f n s t k → ((j : ℕ) → k ≤ j → j < n → f j (get_or s j 0) ≡ get_or s j 0) → t ≡ tabulate n (λ j. f j (get_or s j 0))
-  fill-rest {t} {k} fill same =
-      is-tabulate n (λ j. f j (get_or s j 0)) t fill.long
+  pub fill_rest : {t : List ℕ} {k : ℕ} → Filled f n s t k → ((j : ℕ) → k ≤ j → j < n → f j (get_or s j 0) ≡ get_or s j 0) → t ≡ tabulate n (λ j. f j (get_or s j 0))
+  fill_rest {t} {k} fill same =
+      is_tabulate n (λ j. f j (get_or s j 0)) t fill.long
       (λ j p. ⊎_elim (λ l. fill.new j l) (λ l. fill.old j l ∙ sym (same j l p)) (below_or_not j k))
 
-  pub fill-all : {t : List ℕ} {k : ℕ} → Filled f n s t k → n ≤ k → t ≡ tabulate n (λ j. f j (get_or s j 0))
-  fill-all fill h = fill-rest fill (λ j p q. absurd (omega arith))
+  pub fill_all : {t : List ℕ} {k : ℕ} → Filled f n s t k → n ≤ k → t ≡ tabulate n (λ j. f j (get_or s j 0))
+  fill_all fill h = fill_rest fill (λ j p q. absurd (omega arith))

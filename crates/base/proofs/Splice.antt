@@ -12,21 +12,21 @@ module _ (l : List ℕ) (a : ℕ) (m : List ℕ) (fits : a + length m ≤ length
   front : length (take a l) ≡ a
   front = length-take-le a l (omega arith)
 
-  pub length-spliced : length (spliced l a m) ≡ length l
-  length-spliced = simp (length-append, length-take, length-drop) (omega arith)
+  pub length_spliced : length (spliced l a m) ≡ length l
+  length_spliced = simp (length-append, length-take, length-drop) (omega arith)
 
-  pub spliced-in : (p : ℕ) → p < length m → get_or (spliced l a m) (a + p) 0 ≡ get_or m p 0
-  spliced-in p h =
+  pub spliced_in : (p : ℕ) → p < length m → get_or (spliced l a m) (a + p) 0 ≡ get_or m p 0
+  spliced_in p h =
       ap (λ (n : ℕ). get_or (spliced l a m) (n + p) 0) (sym front)
       ∙ get_or-append-add (take a l) (m ++ drop (a + length m) l) p 0
       ∙ get_or-append m (drop (a + length m) l) 0 p h
 
-  pub spliced-low : (p : ℕ) → p < a → get_or (spliced l a m) p 0 ≡ get_or l p 0
-  spliced-low p h =
+  pub spliced_low : (p : ℕ) → p < a → get_or (spliced l a m) p 0 ≡ get_or l p 0
+  spliced_low p h =
       get_or-append (take a l) (m ++ drop (a + length m) l) 0 p (subst (λ (n : ℕ). p < n) (sym front) h) ∙ get_or-take a l p 0 h
 
-  pub spliced-high : (p : ℕ) → a + length m ≤ p → get_or (spliced l a m) p 0 ≡ get_or l p 0
-  spliced-high p h =
+  pub spliced_high : (p : ℕ) → a + length m ≤ p → get_or (spliced l a m) p 0 ≡ get_or l p 0
+  spliced_high p h =
       ap (λ (n : ℕ). get_or (spliced l a m) n 0) place
       ∙ get_or-append-add (take a l) (m ++ drop (a + length m) l) (length m + (p - (a + length m))) 0
       ∙ get_or-append-add m (drop (a + length m) l) (p - (a + length m)) 0

@@ -13,9 +13,9 @@ first_of [] = 0
 first_of (r ∷ rs) = choose r.applies r.number (first_of rs)
 
 -- what is left in a buffer: `done` where the refusal is 0, else what it held
-abbrev pub unlessRefused : ℕ → List ℕ → List ℕ → List ℕ
-unlessRefused zero done before = done
-unlessRefused (suc k) done before = before
+abbrev pub unless_refused : ℕ → List ℕ → List ℕ → List ℕ
+unless_refused zero done before = done
+unless_refused (suc k) done before = before
 
 -- An answer in the paper's numbers: the result number, and the values that come with it.
 pub record Answer : Type 0 where
@@ -24,4 +24,4 @@ pub record Answer : Type 0 where
 
 -- result 0 brings its values; a refusal brings its number and no other news
 abbrev pub answered : ℕ → List ℕ → Answer
-answered k values = record { number = k; values = unlessRefused k values [] }
+answered k values = record { number = k; values = unless_refused k values [] }

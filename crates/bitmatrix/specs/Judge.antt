@@ -5,7 +5,7 @@ use Rattle.base.specs.Choice.{choose}
 use Rattle.base.specs.Refusal.{Refusal, first_of, Answer, answered}
 use Rattle.matrix.specs.Fold.{sum}
 use Rattle.matrix.specs.Matrix.{weight}
-use Rattle.findings.specs.Findings.{Code, X, finding, isFit, places_of}
+use Rattle.findings.specs.Findings.{Code, X, finding, is_fit, places_of}
 use Rattle.findings.specs.declared.Finding.{Finding}
 use Rattle.bitmatrix.specs.declared.Judgement.{Judgement}
 use Rattle.bitmatrix.specs.declared.Judgement.TheVariants.{Refused, Judged}
@@ -20,7 +20,7 @@ ones code count = sum count (λ i. weight (X code i))
 
 -- fit with 9k - 1 ones for k matrices, the density of the sets of 004
 abbrev pub minimal : Finding → ℕ → ℕ → Bool
-minimal g n count = isFit g && eqb n (9 * count - 1)
+minimal g n count = is_fit g && eqb n (9 * count - 1)
 
 -- no matrix or more than eight
 abbrev pub refusal8 : ℕ → Refusal
@@ -36,13 +36,13 @@ answer_of (Refused n) = record { number = n; values = [] }
 answer_of (Judged g n d) = record { number = 0; values = n ∷ choose d 1 0 ∷ places_of g }
 
 -- the answer of a call: a result number above 0 refuses and brings no other news
-abbrev pub refusedOr : ℕ → Judgement → Judgement
-refusedOr zero j = j
-refusedOr (suc n) j = Refused (suc n)
+abbrev pub refused_or : ℕ → Judgement → Judgement
+refused_or zero j = j
+refused_or (suc n) j = Refused (suc n)
 
 abbrev pub judged : Code → ℕ → Judgement
 judged code count =
-    refusedOr (refusal count)
+    refused_or (refusal count)
     (Judged (finding code count) (ones code count) (minimal (finding code count) (ones code count) count))
 
 -- what the judge promises of its answer r: its number is that of the first refusal that applies and its values are what the code has; and the

@@ -1,6 +1,6 @@
 // What a change of a disk's bytes makes of P and Q, a chunk at a time.
 ghost use Rattle.std.specs.Prelude.{◌≡◌};
-ghost use Rattle.change.specs.Changed.{changedBy};
+ghost use Rattle.change.specs.Changed.{changed_by};
 
 use chunk::WIDTH;
 use gf256::Element;
@@ -20,7 +20,7 @@ pub fn changed(
     p: [u8; WIDTH],
     q: [u8; WIDTH],
 ) -> Parities
-    ensures { result ≡ changedBy c.0 old new p q }
+    ensures { result ≡ changed_by c.0 old new p q }
 {
     let mut change = old;
     chunk::add(&mut change, &new);

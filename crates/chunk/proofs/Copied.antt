@@ -13,32 +13,32 @@ use lib.Seq.{get_or-set_same, get_or-set_other}
 use Rattle.base.specs.Choice.{choose}
 use Rattle.base.specs.Table.{tabulate}
 use Rattle.base.proofs.Choice.{below_or_not}
-use Rattle.base.proofs.Table.{length-tabulate, get_d_tabulate, is-tabulate, tabulate-same}
+use Rattle.base.proofs.Table.{length_tabulate, get_d_tabulate, is_tabulate, tabulate_same}
 use Rattle.chunk.specs.Chunk.{width, each, stored}
 
 pub padded : (from : List ℕ) {count : ℕ} → (count ≡ length from) ⊎ (count ≡ width)
     → tabulate width (λ j. choose (ltb j count) (get_or from j 0) (get_or (replicate width 0) j 0)) ≡ each (λ j. get_or from j 0)
-padded from {count} which = tabulate-same width (λ j p. at j p (below_or_not j count))
+padded from {count} which = tabulate_same width (λ j p. at j p (below_or_not j count))
   where
     at : (j : ℕ) → j < width → (j < count) ⊎ (count ≤ j) → choose (ltb j count) (get_or from j 0) (get_or (replicate width 0) j 0) ≡ get_or from j 0
-    at j p where-it-is =
+    at j p where_it_is =
         ⊎_elim (λ l. rw (lt-ltb j count l))
         (λ l. rw (le-ltb j count l) (get_or-replicate width j 0 0 p ∙ sym (get_or-eq_default from 0 (⊎_elim (λ e. omega arith) (λ e. absurd (omega arith)) which))))
-        where-it-is
+        where_it_is
 
 -- a 00 where the copy ended changes nothing
 pub ended : (from : List ℕ) {t : List ℕ} → length from < width → t ≡ each (λ j. get_or from j 0) → set t (length from) 0 ≡ each (λ j. get_or from j 0)
 ended from {t} short is =
-    is-tabulate width (λ j. get_or from j 0) (set t (length from) 0) (length-set t (length from) 0 ∙ ap length is ∙ length-tabulate width (λ j. get_or from j 0))
+    is_tabulate width (λ j. get_or from j 0) (set t (length from) 0) (length-set t (length from) 0 ∙ ap length is ∙ length_tabulate width (λ j. get_or from j 0))
     (λ j p. at j p (ℕ_discrete j (length from)))
   where
     at : (j : ℕ) → j < width → Dec (j ≡ length from) → get_or (set t (length from) 0) j 0 ≡ get_or from j 0
     at j p (yes e) =
         ap (λ (k : ℕ). get_or (set t (length from) 0) k 0) e
-        ∙ get_or-set_same t (length from) 0 0 (omega (arith, ap length is ∙ length-tabulate width (λ j. get_or from j 0)))
+        ∙ get_or-set_same t (length from) 0 0 (omega (arith, ap length is ∙ length_tabulate width (λ j. get_or from j 0)))
         ∙ sym (get_or-eq_default from 0 (omega arith))
     at j p (no n) = get_or-set_other t (length from) j 0 0 n ∙ ap (λ (l : List ℕ). get_or l j 0) is ∙ get_d_tabulate width (λ j. get_or from j 0) j 0 p
 
 pub fitted : (to c : List ℕ) {count : ℕ} → ((count ≡ length to) × (length to < width)) ⊎ (count ≡ width)
     → tabulate (length to) (λ j. choose (ltb j count) (get_or c j 0) (get_or to j 0)) ≡ stored to c
-fitted to c {count} which = tabulate-same (length to) (λ j p. ⊎_elim (λ e. rw (lt-ltb j count (omega arith), lt-ltb j width (omega arith))) (λ e. rw e) which)
+fitted to c {count} which = tabulate_same (length to) (λ j p. ⊎_elim (λ e. rw (lt-ltb j count (omega arith), lt-ltb j width (omega arith))) (λ e. rw e) which)

@@ -22,13 +22,13 @@ stored to c = tabulate (length to) (λ j. choose (ltb j width) (get_or c j 0) (g
 abbrev pub plus : List ℕ → List ℕ → List ℕ
 plus a d = each (λ j. sum (get_or a j 0) (get_or d j 0))
 
-abbrev pub doublePlus : List ℕ → List ℕ → List ℕ
-doublePlus q d = each (λ j. sum (double (get_or q j 0)) (get_or d j 0))
+abbrev pub double_plus : List ℕ → List ℕ → List ℕ
+double_plus q d = each (λ j. sum (double (get_or q j 0)) (get_or d j 0))
 
 -- whether the places below n of both hold 0
 unfoldable pub zeros : ℕ → List ℕ → List ℕ → Bool
 zeros zero p q = true
 zeros (suc n) p q = both (eqb (get_or q n 0) 0) (both (eqb (get_or p n 0) 0) (zeros n p q))
 
-abbrev pub allZero : List ℕ → List ℕ → Bool
-allZero = zeros width
+abbrev pub all_zero : List ℕ → List ℕ → Bool
+all_zero = zeros width

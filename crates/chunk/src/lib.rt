@@ -4,7 +4,7 @@
 ghost use Rattle.std.specs.Prelude.{◌≡◌, ◌≤◌, ltb, length, get_or};
 ghost use Rattle.base.specs.Choice.{choose};
 ghost use Rattle.base.specs.Table.{tabulate};
-ghost use Rattle.chunk.specs.Chunk.{width, each, stored, plus, doublePlus, allZero};
+ghost use Rattle.chunk.specs.Chunk.{width, each, stored, plus, double_plus, all_zero};
 
 use gf256::Element;
 
@@ -67,7 +67,7 @@ pub fn add(a: &mut [u8; WIDTH], d: &[u8; WIDTH])
 
 // One more disk in both sums: p + d, and by Horner's rule 02 q + d.
 pub fn add_disk(p: &mut [u8; WIDTH], q: &mut [u8; WIDTH], d: &[u8; WIDTH])
-    ensures { (p.new ≡ plus p.old d.now) × (q.new ≡ doublePlus q.old d.now) }
+    ensures { (p.new ≡ plus p.old d.now) × (q.new ≡ double_plus q.old d.now) }
 {
     let _p: &[u8] = p;
     let _q: &[u8] = q;
@@ -83,7 +83,7 @@ pub fn add_disk(p: &mut [u8; WIDTH], q: &mut [u8; WIDTH], d: &[u8; WIDTH])
 // Two more disks in both sums, the higher one first: p + d + e, and by Horner's rule (equation 21)
 // 02 (02 q + d) + e. Both are read before the first step.
 pub fn add_two_disks(p: &mut [u8; WIDTH], q: &mut [u8; WIDTH], d: &[u8; WIDTH], e: &[u8; WIDTH])
-    ensures { (p.new ≡ plus (plus p.old d.now) e.now) × (q.new ≡ doublePlus (doublePlus q.old d.now) e.now) }
+    ensures { (p.new ≡ plus (plus p.old d.now) e.now) × (q.new ≡ double_plus (double_plus q.old d.now) e.now) }
 {
     let _p: &[u8] = p;
     let _q: &[u8] = q;
@@ -99,7 +99,7 @@ pub fn add_two_disks(p: &mut [u8; WIDTH], q: &mut [u8; WIDTH], d: &[u8; WIDTH], 
 
 // Whether both are 00 at every place.
 pub fn are_zero(p: &[u8; WIDTH], q: &[u8; WIDTH]) -> bool
-    ensures { result ≡ allZero p.now q.now }
+    ensures { result ≡ all_zero p.now q.now }
 {
     let mut r = 0;
     let mut j = 0;

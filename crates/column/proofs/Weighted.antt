@@ -5,10 +5,10 @@ use mathlib.Core.Logic.{◌≢◌}
 use Prim.Native.Nat.{ℕ, ◌≤◌, ◌<◌}
 use native.Mathlib.Omega.{arith}
 use Rattle.gf256.specs.Field.{sum}
-use Rattle.gf256.proofs.Laws.{sum-assoc, Sum-self, sum-cancel, zero-sum, sum-zero}
+use Rattle.gf256.proofs.Laws.{sum_assoc, sum_self, sum_cancel, zero_sum, sum_zero}
 use Rattle.column.specs.Column.{Column, put, total}
-use Rattle.column.proofs.Put.{put_same, put_other, put_back, by-role}
-use Rattle.column.proofs.Total.{total-same, total-sum, total-none, total-only}
+use Rattle.column.proofs.Put.{put_same, put_other, put_back, by_role}
+use Rattle.column.proofs.Total.{total_same, total_sum, total_none, total_only}
 
 abbrev pub Additive : (ℕ → ℕ → ℕ) → Type 0
 Additive t = (k x y : ℕ) → t k (sum x y) ≡ sum (t k x) (t k y)
@@ -20,43 +20,43 @@ weighted t n c = total n (λ k. t k (c k))
 abbrev pub only : ℕ → ℕ → Column
 only x v = put x v (λ r. 0)
 
-pub put-split : (x v : ℕ) (c : Column) → put x v c ≡ (λ r. sum (put x 0 c r) (only x v r))
-put-split x v c =
-    by-role x (put_same x v c ∙ sym (ap₂ sum (put_same x 0 c) (put_same x v (λ r. 0)) ∙ zero-sum v))
-    (λ r h. put_other x v c r h ∙ sym (ap₂ sum (put_other x 0 c r h) (put_other x v (λ r. 0) r h) ∙ sum-zero (c r)))
+pub put_split : (x v : ℕ) (c : Column) → put x v c ≡ (λ r. sum (put x 0 c r) (only x v r))
+put_split x v c =
+    by_role x (put_same x v c ∙ sym (ap₂ sum (put_same x 0 c) (put_same x v (λ r. 0)) ∙ zero_sum v))
+    (λ r h. put_other x v c r h ∙ sym (ap₂ sum (put_other x 0 c r h) (put_other x v (λ r. 0) r h) ∙ sum_zero (c r)))
 
 module _ (t : ℕ → ℕ → ℕ) (add : Additive t) (n : ℕ) where
-  pub weight-zero : (k : ℕ) → t k 0 ≡ 0
-  weight-zero k = ap (t k) (sym (Sum-self 0)) ∙ add k 0 0 ∙ Sum-self (t k 0)
+  pub weight_zero : (k : ℕ) → t k 0 ≡ 0
+  weight_zero k = ap (t k) (sym (sum_self 0)) ∙ add k 0 0 ∙ sum_self (t k 0)
 
-  pub weighted-sum : (c e : Column) → weighted t n (λ r. sum (c r) (e r)) ≡ sum (weighted t n c) (weighted t n e)
-  weighted-sum c e = total-same n (λ k p. add k (c k) (e k)) ∙ total-sum n (λ k. t k (c k)) (λ k. t k (e k))
+  pub weighted_sum : (c e : Column) → weighted t n (λ r. sum (c r) (e r)) ≡ sum (weighted t n c) (weighted t n e)
+  weighted_sum c e = total_same n (λ k p. add k (c k) (e k)) ∙ total_sum n (λ k. t k (c k)) (λ k. t k (e k))
 
   -- columns that are 00 on every data disk, or on every one but x
-  pub weighted-none : (c : Column) → ((k : ℕ) → k < n → c k ≡ 0) → weighted t n c ≡ 0
-  weighted-none c none = total-none n (λ k. t k (c k)) (λ k p. ap (t k) (none k p) ∙ weight-zero k)
+  pub weighted_none : (c : Column) → ((k : ℕ) → k < n → c k ≡ 0) → weighted t n c ≡ 0
+  weighted_none c none = total_none n (λ k. t k (c k)) (λ k p. ap (t k) (none k p) ∙ weight_zero k)
 
-  pub weighted-only : (c : Column) (x : ℕ) → x < n → ((k : ℕ) → k < n → k ≢ x → c k ≡ 0) → weighted t n c ≡ t x (c x)
-  weighted-only c x h others = total-only n (λ k. t k (c k)) x h (λ k p q. ap (t k) (others k p q) ∙ weight-zero k)
+  pub weighted_only : (c : Column) (x : ℕ) → x < n → ((k : ℕ) → k < n → k ≢ x → c k ≡ 0) → weighted t n c ≡ t x (c x)
+  weighted_only c x h others = total_only n (λ k. t k (c k)) x h (λ k p q. ap (t k) (others k p q) ∙ weight_zero k)
 
   -- one symbol replaced, on a data disk and elsewhere
-  pub weighted-put : (c : Column) (x v : ℕ) → x < n → weighted t n (put x v c) ≡ sum (weighted t n (put x 0 c)) (t x v)
-  weighted-put c x v h =
-      ap (weighted t n) (put-split x v c)
-      ∙ weighted-sum (put x 0 c) (only x v)
+  pub weighted_put : (c : Column) (x v : ℕ) → x < n → weighted t n (put x v c) ≡ sum (weighted t n (put x 0 c)) (t x v)
+  weighted_put c x v h =
+      ap (weighted t n) (put_split x v c)
+      ∙ weighted_sum (put x 0 c) (only x v)
       ∙ ap (sum (weighted t n (put x 0 c)))
-      (weighted-only (only x v) x h (λ k p q. put_other x v (λ r. 0) k q) ∙ ap (t x) (put_same x v (λ r. 0)))
+      (weighted_only (only x v) x h (λ k p q. put_other x v (λ r. 0) k q) ∙ ap (t x) (put_same x v (λ r. 0)))
 
   -- what a changed symbol adds
-  pub weighted-change : (c : Column) (x v : ℕ) → x < n → weighted t n (put x v c) ≡ sum (weighted t n c) (t x (sum (c x) v))
-  weighted-change c x v h =
-      weighted-put c x v h
-      ∙ ap (sum rest) (sym (sum-cancel (t x (c x)) (t x v)))
-      ∙ sym (sum-assoc rest (t x (c x)) (sum (t x (c x)) (t x v)))
-      ∙ ap₂ sum (sym (weighted-put c x (c x) h) ∙ ap (weighted t n) (put_back x c)) (sym (add x (c x) v))
+  pub weighted_change : (c : Column) (x v : ℕ) → x < n → weighted t n (put x v c) ≡ sum (weighted t n c) (t x (sum (c x) v))
+  weighted_change c x v h =
+      weighted_put c x v h
+      ∙ ap (sum rest) (sym (sum_cancel (t x (c x)) (t x v)))
+      ∙ sym (sum_assoc rest (t x (c x)) (sum (t x (c x)) (t x v)))
+      ∙ ap₂ sum (sym (weighted_put c x (c x) h) ∙ ap (weighted t n) (put_back x c)) (sym (add x (c x) v))
     where
       rest : ℕ
       rest = weighted t n (put x 0 c)
 
-  pub weighted-outside : (c : Column) (d v : ℕ) → n ≤ d → weighted t n (put d v c) ≡ weighted t n c
-  weighted-outside c d v h = total-same n (λ k p. ap (t k) (put_other d v c k (omega arith)))
+  pub weighted_outside : (c : Column) (d v : ℕ) → n ≤ d → weighted t n (put d v c) ≡ weighted t n c
+  weighted_outside c d v h = total_same n (λ k p. ap (t k) (put_other d v c k (omega arith)))

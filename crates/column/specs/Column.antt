@@ -4,8 +4,8 @@ use Rattle.std.specs.Prelude.{ℕ, zero, suc, ◌+◌, ◌≡◌, eqb}
 use Rattle.std.proofs.Common.{suc-ne-zero}
 use Rattle.gf256.specs.declared.Logarithm.{Logarithm}
 use Rattle.gf256.specs.declared.Logarithm.TheVariants.{Is as LogarithmIs, None as NoLogarithm}
-use Rattle.gf256.specs.Field.{sum, product, power, reciprocal, quotient, firstExponent}
-use Rattle.gf256.proofs.Laws.{power-of-two-nonzero}
+use Rattle.gf256.specs.Field.{sum, product, power, reciprocal, quotient, first_exponent}
+use Rattle.gf256.proofs.Laws.{power_of_two_nonzero}
 use Rattle.column.specs.declared.Device.{Device}
 use Rattle.column.specs.declared.Device.TheVariants.{Data, P, Q}
 use Rattle.column.specs.declared.Lost.{Lost}
@@ -19,10 +19,10 @@ Column = ℕ → ℕ
 abbrev pub put : ℕ → ℕ → Column → Column
 put d v c r = choose (eqb r d) v (c r)
 
-abbrev pub roleOf : ℕ → Device → ℕ
-roleOf n (Data k) = k
-roleOf n P = n
-roleOf n Q = n + 1
+abbrev pub role_of : ℕ → Device → ℕ
+role_of n (Data k) = k
+role_of n P = n
+role_of n Q = n + 1
 
 -- f 0 + f 1 + ... + f (n - 1)
 unfoldable pub total : ℕ → (ℕ → ℕ) → ℕ
@@ -44,120 +44,120 @@ pub record Code : Type 0 where
   pub undo : ℕ → ℕ → ℕ
   pub split : ℕ → ℕ → ℕ → ℕ → ℕ
 
--- The Reed-Solomon code of the paper. A power of 02 is never 00 (`power-of-two-nonzero`), so that 02^-x is there for every disk x, and
+-- The Reed-Solomon code of the paper. A power of 02 is never 00 (`power_of_two_nonzero`), so that 02^-x is there for every disk x, and
 -- 02^y / 02^x, the paper's g^(y-x).
-abbrev pub overPower : ℕ → ℕ
-overPower x = reciprocal (power 2 x) (power-of-two-nonzero x)
+abbrev pub over_power : ℕ → ℕ
+over_power x = reciprocal (power 2 x) (power_of_two_nonzero x)
 
 abbrev pub ratio : ℕ → ℕ → ℕ
-ratio y x = product (power 2 y) (overPower x)
+ratio y x = product (power 2 y) (over_power x)
 
--- What equations 17 and 18 divide by: g^(y-x) + 01. It is not 00 for two different disks below 255 (`divisor-nonzero`).
+-- What equations 17 and 18 divide by: g^(y-x) + 01. It is not 00 for two different disks below 255 (`divisor_nonzero`).
 abbrev pub divisor : ℕ → ℕ → ℕ
 divisor x y = sum (ratio y x) 1
 
 -- A and B of equations 17 and 18, from what they divide by. Where that is 00 nothing is divided: x and y are one disk, modulo 255, and with
--- 01 and 00 equation 19 gives it what equation 1 does (`split-same`).
-abbrev pub coefficientsBy : ℕ → ℕ → ℕ → TwoBytes
-coefficientsBy x y zero = record { first = 1; second = 0 }
-coefficientsBy x y (suc d) =
-    record { first = quotient (ratio y x) (suc d) (suc-ne-zero d); second = quotient (overPower x) (suc d) (suc-ne-zero d) }
+-- 01 and 00 equation 19 gives it what equation 1 does (`split_same`).
+abbrev pub coefficients_by : ℕ → ℕ → ℕ → TwoBytes
+coefficients_by x y zero = record { first = 1; second = 0 }
+coefficients_by x y (suc d) =
+    record { first = quotient (ratio y x) (suc d) (suc-ne-zero d); second = quotient (over_power x) (suc d) (suc-ne-zero d) }
 
 unfoldable pub coefficients : ℕ → ℕ → TwoBytes
-coefficients x y = coefficientsBy x y (divisor x y)
+coefficients x y = coefficients_by x y (divisor x y)
 
 -- equations 2, 5 and 19
-unfoldable pub reedSolomon : Code
-reedSolomon =
+unfoldable pub reed_solomon : Code
+reed_solomon =
     record {
       act = λ k d. product (power 2 k) d;
-      undo = λ k q. product (overPower k) q;
+      undo = λ k q. product (over_power k) q;
       split = λ x y p q. sum (product (coefficients x y).first p) (product (coefficients x y).second q);
     }
 
 -- the right side of equation 1
-abbrev pub parityP : ℕ → Column → ℕ
-parityP n c = total n c
+abbrev pub parity_p : ℕ → Column → ℕ
+parity_p n c = total n c
 
 -- What stood on a lost disk is taken as 00. Data disk x from equation 1, and, for two lost data disks, P + P_xy:
-abbrev pub fromP : ℕ → ℕ → Column → ℕ
-fromP n x c = sum (c n) (parityP n (put x 0 c))
+abbrev pub from_p : ℕ → ℕ → Column → ℕ
+from_p n x c = sum (c n) (parity_p n (put x 0 c))
 
-abbrev pub restP : ℕ → ℕ → ℕ → Column → ℕ
-restP n x y c = sum (c n) (parityP n (put x 0 (put y 0 c)))
+abbrev pub rest_p : ℕ → ℕ → ℕ → Column → ℕ
+rest_p n x y c = sum (c n) (parity_p n (put x 0 (put y 0 c)))
 
 -- P* of the paper's section 4: stored plus recomputed
-abbrev pub syndromeP : ℕ → Column → ℕ
-syndromeP n c = sum (c n) (parityP n c)
+abbrev pub syndrome_p : ℕ → Column → ℕ
+syndrome_p n c = sum (c n) (parity_p n c)
 
 module _ (code : Code) where
   -- the right side of equation 2
-  abbrev pub parityQ : ℕ → Column → ℕ
-  parityQ n c = total n (λ k. code.act k (c k))
+  abbrev pub parity_q : ℕ → Column → ℕ
+  parity_q n c = total n (λ k. code.act k (c k))
 
   -- a column that meets equations 1 and 2
   pub record Encoded (n : ℕ) (c : Column) : Type 0 where
-    pub first : c n ≡ parityP n c
-    pub second : c (n + 1) ≡ parityQ n c
+    pub first : c n ≡ parity_p n c
+    pub second : c (n + 1) ≡ parity_q n c
 
   -- encode: P and Q are set, data stay
-  abbrev pub encodeColumn : ℕ → Column → Column
-  encodeColumn n c = put n (parityP n c) (put (n + 1) (parityQ n c) c)
+  abbrev pub encode_column : ℕ → Column → Column
+  encode_column n c = put n (parity_p n c) (put (n + 1) (parity_q n c) c)
 
   -- write: data disk k gets v, and what changed is added to P and, times the coefficient, to Q
-  abbrev pub adjustColumn : ℕ → ℕ → ℕ → Column → Column
-  adjustColumn n k v c = put n (sum (c n) (sum (c k) v)) (put (n + 1) (sum (c (n + 1)) (code.act k (sum (c k) v))) c)
+  abbrev pub adjust_column : ℕ → ℕ → ℕ → Column → Column
+  adjust_column n k v c = put n (sum (c n) (sum (c k) v)) (put (n + 1) (sum (c (n + 1)) (code.act k (sum (c k) v))) c)
 
-  abbrev pub writeColumn : ℕ → ℕ → ℕ → Column → Column
-  writeColumn n k v c = put k v (adjustColumn n k v c)
+  abbrev pub write_column : ℕ → ℕ → ℕ → Column → Column
+  write_column n k v c = put k v (adjust_column n k v c)
 
   -- data disk x from equation 2 (equation 5)
-  abbrev pub fromQ : ℕ → ℕ → Column → ℕ
-  fromQ n x c = code.undo x (sum (c (n + 1)) (parityQ n (put x 0 c)))
+  abbrev pub from_q : ℕ → ℕ → Column → ℕ
+  from_q n x c = code.undo x (sum (c (n + 1)) (parity_q n (put x 0 c)))
 
   -- two lost data disks x and y: Q + Q_xy, and D_x by equation 19
-  abbrev pub restQ : ℕ → ℕ → ℕ → Column → ℕ
-  restQ n x y c = sum (c (n + 1)) (parityQ n (put x 0 (put y 0 c)))
+  abbrev pub rest_q : ℕ → ℕ → ℕ → Column → ℕ
+  rest_q n x y c = sum (c (n + 1)) (parity_q n (put x 0 (put y 0 c)))
 
-  abbrev pub fromBoth : ℕ → ℕ → ℕ → Column → ℕ
-  fromBoth n x y c = code.split x y (restP n x y c) (restQ n x y c)
+  abbrev pub from_both : ℕ → ℕ → ℕ → Column → ℕ
+  from_both n x y c = code.split x y (rest_p n x y c) (rest_q n x y c)
 
   -- the new byte of one lost device
-  abbrev pub newByte : ℕ → Device → Column → ℕ
-  newByte n (Data x) c = fromP n x c
-  newByte n P c = parityP n c
-  newByte n Q c = parityQ n c
+  abbrev pub new_byte : ℕ → Device → Column → ℕ
+  new_byte n (Data x) c = from_p n x c
+  new_byte n P c = parity_p n c
+  new_byte n Q c = parity_q n c
 
   -- The new bytes of two lost devices. Where a parity is one of them, it is recomputed from the data with the new data byte.
-  abbrev pub dataAndP : ℕ → ℕ → Column → TwoBytes
-  dataAndP n x c = record { first = fromQ n x c; second = parityP n (put x (fromQ n x c) c) }
+  abbrev pub data_and_p : ℕ → ℕ → Column → TwoBytes
+  data_and_p n x c = record { first = from_q n x c; second = parity_p n (put x (from_q n x c) c) }
 
-  abbrev pub dataAndQ : ℕ → ℕ → Column → TwoBytes
-  dataAndQ n x c = record { first = fromP n x c; second = parityQ n (put x (fromP n x c) c) }
+  abbrev pub data_and_q : ℕ → ℕ → Column → TwoBytes
+  data_and_q n x c = record { first = from_p n x c; second = parity_q n (put x (from_p n x c) c) }
 
   -- equations 19 and 20
-  abbrev pub twoData : ℕ → ℕ → ℕ → Column → TwoBytes
-  twoData n x y c = record { first = fromBoth n x y c; second = sum (restP n x y c) (fromBoth n x y c) }
+  abbrev pub two_data : ℕ → ℕ → ℕ → Column → TwoBytes
+  two_data n x y c = record { first = from_both n x y c; second = sum (rest_p n x y c) (from_both n x y c) }
 
-  abbrev pub newBytes : ℕ → Device → Device → Column → TwoBytes
-  newBytes n (Data x) (Data y) c = twoData n x y c
-  newBytes n (Data x) P c = dataAndP n x c
-  newBytes n (Data x) Q c = dataAndQ n x c
-  newBytes n P (Data x) c = exchanged (dataAndP n x c)
-  newBytes n P P c = record { first = parityP n c; second = parityP n c }
-  newBytes n P Q c = record { first = parityP n c; second = parityQ n c }
-  newBytes n Q (Data x) c = exchanged (dataAndQ n x c)
-  newBytes n Q P c = record { first = parityQ n c; second = parityP n c }
-  newBytes n Q Q c = record { first = parityQ n c; second = parityQ n c }
+  abbrev pub new_bytes : ℕ → Device → Device → Column → TwoBytes
+  new_bytes n (Data x) (Data y) c = two_data n x y c
+  new_bytes n (Data x) P c = data_and_p n x c
+  new_bytes n (Data x) Q c = data_and_q n x c
+  new_bytes n P (Data x) c = exchanged (data_and_p n x c)
+  new_bytes n P P c = record { first = parity_p n c; second = parity_p n c }
+  new_bytes n P Q c = record { first = parity_p n c; second = parity_q n c }
+  new_bytes n Q (Data x) c = exchanged (data_and_q n x c)
+  new_bytes n Q P c = record { first = parity_q n c; second = parity_p n c }
+  new_bytes n Q Q c = record { first = parity_q n c; second = parity_q n c }
 
   -- rebuild: the named devices get their new bytes
-  abbrev pub rebuildColumn : ℕ → Lost → Column → Column
-  rebuildColumn n (One d) c = put (roleOf n d) (newByte n d c) c
-  rebuildColumn n (Two d e) c = put (roleOf n d) (newBytes n d e c).first (put (roleOf n e) (newBytes n d e c).second c)
+  abbrev pub rebuild_column : ℕ → Lost → Column → Column
+  rebuild_column n (One d) c = put (role_of n d) (new_byte n d c) c
+  rebuild_column n (Two d e) c = put (role_of n d) (new_bytes n d e c).first (put (role_of n e) (new_bytes n d e c).second c)
 
   -- Q*
-  abbrev pub syndromeQ : ℕ → Column → ℕ
-  syndromeQ n c = sum (c (n + 1)) (parityQ n c)
+  abbrev pub syndrome_q : ℕ → Column → ℕ
+  syndrome_q n c = sum (c (n + 1)) (parity_q n c)
 
 -- The verdict on a column, from P* and Q*: 0 clean, 1 for P, 2 for Q; where neither is 00, 16 + z for the data disk z with g^z = Q*/P*
 -- (equation 26), and 3 where no data disk has it. So z is the logarithm of Q*/P* (equation 27).
@@ -165,22 +165,22 @@ abbrev pub located : Logarithm → ℕ
 located (LogarithmIs z) = 16 + z
 located NoLogarithm = 3
 
-unfoldable pub verdictOf : ℕ → ℕ → ℕ → ℕ
-verdictOf n zero zero = 0
-verdictOf n (suc p) zero = 1
-verdictOf n zero (suc q) = 2
-verdictOf n (suc p) (suc q) = located (firstExponent (quotient (suc q) (suc p) (suc-ne-zero p)) 0 n)
+unfoldable pub verdict_of : ℕ → ℕ → ℕ → ℕ
+verdict_of n zero zero = 0
+verdict_of n (suc p) zero = 1
+verdict_of n zero (suc q) = 2
+verdict_of n (suc p) (suc q) = located (first_exponent (quotient (suc q) (suc p) (suc-ne-zero p)) 0 n)
 
 abbrev pub verdict : ℕ → Column → ℕ
-verdict n c = verdictOf n (syndromeP n c) (syndromeQ reedSolomon n c)
+verdict n c = verdict_of n (syndrome_p n c) (syndrome_q reed_solomon n c)
 
 -- the verdict that names a device
-abbrev pub rightVerdict : Device → ℕ
-rightVerdict (Data z) = 16 + z
-rightVerdict P = 1
-rightVerdict Q = 2
+abbrev pub right_verdict : Device → ℕ
+right_verdict (Data z) = 16 + z
+right_verdict P = 1
+right_verdict Q = 2
 
 -- repair (2026-02), where the summary names device d: a column with a verdict is mended, P or Q recomputed and a data byte from P, and a clean
 -- column stays
-abbrev pub mendColumn : ℕ → Device → Column → Column
-mendColumn n d c = choose (eqb (verdict n c) 0) c (rebuildColumn reedSolomon n (One d) c)
+abbrev pub mend_column : ℕ → Device → Column → Column
+mend_column n d c = choose (eqb (verdict n c) 0) c (rebuild_column reed_solomon n (One d) c)

@@ -5,15 +5,15 @@ use Rattle.gf256.specs.Field.{sum}
 use Rattle.column.specs.Column.{Column, Code}
 
 pub record Lawful (code : Code) (w m : ℕ) : Type 0 where
-  pub act-sum : (k x y : ℕ) → code.act k (sum x y) ≡ sum (code.act k x) (code.act k y)
-  pub act-closed : (k x : ℕ) → x < 2 ^ w → code.act k x < 2 ^ w
-  pub act-only-zero : (k x : ℕ) → k < m → x < 2 ^ w → code.act k x ≡ 0 → x ≡ 0
-  pub pair-only-zero : (i j x : ℕ) → i < m → j < m → i ≢ j → x < 2 ^ w → sum (code.act i x) (code.act j x) ≡ 0 → x ≡ 0
-  pub undo-act : (k q : ℕ) → k < m → q < 2 ^ w → code.act k (code.undo k q) ≡ q
-  pub undo-closed : (k q : ℕ) → q < 2 ^ w → code.undo k q < 2 ^ w
-  pub split-act : (x y p q : ℕ) → x < m → y < m → x ≢ y → p < 2 ^ w → q < 2 ^ w
+  pub act_sum : (k x y : ℕ) → code.act k (sum x y) ≡ sum (code.act k x) (code.act k y)
+  pub act_closed : (k x : ℕ) → x < 2 ^ w → code.act k x < 2 ^ w
+  pub act_only_zero : (k x : ℕ) → k < m → x < 2 ^ w → code.act k x ≡ 0 → x ≡ 0
+  pub pair_only_zero : (i j x : ℕ) → i < m → j < m → i ≢ j → x < 2 ^ w → sum (code.act i x) (code.act j x) ≡ 0 → x ≡ 0
+  pub undo_act : (k q : ℕ) → k < m → q < 2 ^ w → code.act k (code.undo k q) ≡ q
+  pub undo_closed : (k q : ℕ) → q < 2 ^ w → code.undo k q < 2 ^ w
+  pub split_act : (x y p q : ℕ) → x < m → y < m → x ≢ y → p < 2 ^ w → q < 2 ^ w
       → sum (code.act x (code.split x y p q)) (code.act y (sum p (code.split x y p q))) ≡ q
-  pub split-closed : (x y p q : ℕ) → p < 2 ^ w → q < 2 ^ w → code.split x y p q < 2 ^ w
+  pub split_closed : (x y p q : ℕ) → p < 2 ^ w → q < 2 ^ w → code.split x y p q < 2 ^ w
 
 -- every symbol of a column has at most w bits
 abbrev pub Symbols : ℕ → Column → Type 0

@@ -10,15 +10,15 @@ use borrow.Rule.Slice.PartMut.{put_mid, Post-is, same_len_mid}
 use lib.ListN.{length, take, drop}
 use Rattle.base.specs.Choice.{choose}
 use Rattle.base.specs.Table.{tabulate}
-use Rattle.base.proofs.Fill.{Filled, fill_none, fill-over, fill-all}
-use Rattle.base.proofs.Table.{length-tabulate}
+use Rattle.base.proofs.Fill.{Filled, fill_none, fill_over, fill_all}
+use Rattle.base.proofs.Table.{length_tabulate}
 use Rattle.base.proofs.Tails.{part_length}
 use Rattle.column.specs.Column.{verdict}
 use Rattle.shape.specs.declared.Geometry.{Geometry}
 use Rattle.shape.specs.Layout.{column}
 use Rattle.sums.specs.Strip.{strip}
 use Rattle.verdict.specs.Summary.{joined, summary, WithSummary}
-use Rattle.verdict.proofs.Summary.{summary-none, summary-again, summary-as}
+use Rattle.verdict.proofs.Summary.{summary_none, summary_again, summary_as}
 use Rattle.compare.specs.Compare.{RoomFor, CheckedInto}
 
 -- found is the summary of the first i verdicts, and the room has them, if they are kept
@@ -34,37 +34,37 @@ room_fits true has i w h fits = (omega arith, omega (arith, has.whole refl))
 room_fits false has i w h fits = (omega arith, omega (arith, has.scratch refl))
 
 module _ {g : Geometry} {s : List ℕ} {keep : Bool} {before : List ℕ} where
-  pub checked-none : RoomFor g keep before → CheckedBelow g s keep before before 0 0
-  checked-none has =
-      record { within = omega arith; summarized = sym (summary-none _); long = refl; kept = λ e. fill_none (has.whole e) }
+  pub checked_none : RoomFor g keep before → CheckedBelow g s keep before before 0 0
+  checked_none has =
+      record { within = omega arith; summarized = sym (summary_none _); long = refl; kept = λ e. fill_none (has.whole e) }
 
-  pub checked-more : {room m : List ℕ} {c found v r at : ℕ} (i w : ℕ) → CheckedBelow g s keep before room c found → i ≤ c → c ≤ i + w → i + w ≤ g.b
+  pub checked_more : {room m : List ℕ} {c found v r at : ℕ} (i w : ℕ) → CheckedBelow g s keep before room c found → i ≤ c → c ≤ i + w → i + w ≤ g.b
       → at ≡ choose keep i 0
       → at + w ≤ length room
       → WithSummary (tabulate (length (take (at + w - at) (drop at room))) (λ j. verdict g.n (column g s (i + j)))) v m
       → r ≡ joined found v
       → CheckedBelow g s keep before (put_mid at (at + w - at) room m) (i + w) r
-  checked-more {room} {m} {c} {v = v} {at = at} i w below begins reaches fits is holds told step =
+  checked_more {room} {m} {c} {v = v} {at = at} i w below begins reaches fits is holds told step =
       record {
         within = fits;
-        summarized = summary-again f i w c begins reaches below.summarized part.result step;
-        long = same_len_mid at (at + w - at) room m (ap length told.room ∙ length-tabulate _ _) ∙ below.long;
+        summarized = summary_again f i w c begins reaches below.summarized part.result step;
+        long = same_len_mid at (at + w - at) room m (ap length told.room ∙ length_tabulate _ _) ∙ below.long;
         kept =
             λ e.
             let here : at ≡ i = is ∙ ap (λ (k : Bool). choose k i 0) e in
             subst (λ (a : ℕ). Filled (λ j v. f j) g.b before (take a room ++ (m ++ drop (at + w - at) (drop at room))) (i + w)) (sym here)
-            (fill-over i w (below.kept e) begins reaches fits part.room (Post-is at (at + w) room (omega arith) ∙ ap (λ (a : ℕ). drop (a + w) room) here));
+            (fill_over i w (below.kept e) begins reaches fits part.room (Post-is at (at + w) room (omega arith) ∙ ap (λ (a : ℕ). drop (a + w) room) here));
       }
     where
       f : ℕ → ℕ
       f j = verdict g.n (column g s j)
 
       part : WithSummary (tabulate w (λ j. f (i + j))) v m
-      part = summary-as (ap (λ (k : ℕ). tabulate k (λ j. f (i + j))) (part_length room at (at + w) (omega arith) holds ∙ omega arith)) told
+      part = summary_as (ap (λ (k : ℕ). tabulate k (λ j. f (i + j))) (part_length room at (at + w) (omega arith) holds ∙ omega arith)) told
 
-  pub checked-all : {room : List ℕ} {i found : ℕ} → CheckedBelow g s keep before room i found → i ≡ g.b → CheckedInto g s keep found room
-  checked-all below all =
+  pub checked_all : {room : List ℕ} {i found : ℕ} → CheckedBelow g s keep before room i found → i ≡ g.b → CheckedInto g s keep found room
+  checked_all below all =
       record {
         result = below.summarized ∙ ap (λ (k : ℕ). summary (tabulate k (λ j. verdict g.n (column g s j)))) all;
-        room = λ e. fill-all (below.kept e) (omega arith);
+        room = λ e. fill_all (below.kept e) (omega arith);
       }

@@ -16,5 +16,5 @@ unclear v = either (eqb v 3) (eqb v 4)
 abbrev pub refusal9 : Geometry → List ℕ → Refusal
 refusal9 g s = record { number = 9; applies = unclear (summary (verdicts g s)) }
 
-abbrev pub repairRefusal : Geometry → List ℕ → ℕ
-repairRefusal g s = first_of (refusal1 library g ∷ refusal2 library g ∷ refusal3 g (length s) ∷ refusal9 g s ∷ [])
+abbrev pub repair_refusal : Geometry → List ℕ → ℕ
+repair_refusal g s = first_of (refusal1 library g ∷ refusal2 library g ∷ refusal3 g (length s) ∷ refusal9 g s ∷ [])

@@ -10,8 +10,8 @@ ghost use Rattle.shape.specs.Refusals.{WellShaped};
 ghost use Rattle.stretch.specs.Stretch.{Has};
 ghost use Rattle.sums.specs.Strip.{strip, HasStrip};
 ghost use Rattle.verdict.specs.Summary.{WithSummary};
-ghost use Rattle.compare.specs.Compare.{summaryOf, CompareCall, RoomFor, CheckedInto};
-ghost use Rattle.compare.specs.Repair.{unclear, repairRefusal};
+ghost use Rattle.compare.specs.Compare.{summary_of, CompareCall, RoomFor, CheckedInto};
+ghost use Rattle.compare.specs.Repair.{unclear, repair_refusal};
 
 use chunk::WIDTH;
 use shape::Geometry;
@@ -29,7 +29,7 @@ pub fn compare(g: Geometry, stripe: &[u8], room: &mut [u16]) -> u16
 
 // The summary alone: the verdicts are kept nowhere. 0 where the stripe is none.
 pub fn summary_of(g: Geometry, stripe: &[u8]) -> u16
-    ensures { result ≡ summaryOf g stripe.now }
+    ensures { result ≡ summary_of g stripe.now }
 {
     if shape::encode_refusal(g, stripe.len()) != 0 {
         return 0;
@@ -53,7 +53,7 @@ pub fn summary_refusal(summary: u16) -> u8
 
 // 1 to 3 and 9. This refusal alone reads the bytes of a stripe.
 pub fn repair_refusal(g: Geometry, stripe: &[u8]) -> u8
-    ensures { result ≡ repairRefusal g stripe.now }
+    ensures { result ≡ repair_refusal g stripe.now }
 {
     let refused = shape::encode_refusal(g, stripe.len());
     if refused != 0 {

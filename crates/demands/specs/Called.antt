@@ -6,17 +6,17 @@ use prog.Model.{AllFit}
 use Rattle.column.specs.declared.Device.{Device}
 use Rattle.column.specs.declared.Lost.{Lost}
 use Rattle.column.specs.declared.Lost.TheVariants.{One}
-use Rattle.column.specs.Column.{reedSolomon}
+use Rattle.column.specs.Column.{reed_solomon}
 use Rattle.column.specs.Loss.{Spared, KnownLoss}
 use Rattle.shape.specs.declared.Geometry.{Geometry}
 use Rattle.devices.specs.declared.Naming.TheVariants.{Loss}
 use Rattle.shape.specs.Layout.{column}
-use Rattle.devices.specs.Codes.{namingOf}
+use Rattle.devices.specs.Codes.{naming_of}
 use Rattle.write.specs.Write.{WriteCall}
 use Rattle.stripe.specs.Calls.{RebuildCall, RebuildNamedCall, RepairCall}
 use Rattle.demands.specs.Layout.{layout_of}
-use Rattle.demands.specs.Series.{EncodedStripe, Member, run, All, latest, valueOr, Claim}
-use Rattle.demands.specs.Members.{writeMember, refusedRebuild, lossMember, damageMember, refusedRepair, AllowedFrom}
+use Rattle.demands.specs.Series.{EncodedStripe, Member, run, All, latest, value_or, Claim}
+use Rattle.demands.specs.Members.{write_member, refused_rebuild, loss_member, damage_member, refused_repair, AllowedFrom}
 
 -- what a slice of u8 holds, in the toolchain's words: each of the numbers fits eight bits
 abbrev pub Slice : List ℕ → Type 0
@@ -33,23 +33,23 @@ pub record Loses (g : Geometry) (lost : Lost) (s t : List ℕ) : Type 0 where
 pub data Step (g : Geometry) (encoded : Type 0) : List ℕ → Member → List ℕ → Type 0 where
   -- any write; an accepted one has the stripe's n and B
   writes : {s t : List ℕ} (h : Geometry) (disk offset : ℕ) (new : List ℕ) (r : ℕ) → Slice new → (r ≡ 0 → h ≡ g) → WriteCall h disk offset new s r t
-      → Step g encoded s (writeMember (length s) h disk offset new) t
+      → Step g encoded s (write_member (length s) h disk offset new) t
   -- a refused rebuild of any stripe, by devices and by codes
   refuses : {s t : List ℕ} (h : Geometry) (lost : Lost) (r : ℕ) → r ≢ 0 → RebuildCall h lost s r t
-      → Step g encoded s (refusedRebuild h (Loss lost)) t
-  refuses-codes : {s t : List ℕ} (h : Geometry) (first second r : ℕ) → r ≢ 0 → RebuildNamedCall h first second s r t
-      → Step g encoded s (refusedRebuild h (namingOf first second)) t
+      → Step g encoded s (refused_rebuild h (Loss lost)) t
+  refuses_codes : {s t : List ℕ} (h : Geometry) (first second r : ℕ) → r ≢ 0 → RebuildNamedCall h first second s r t
+      → Step g encoded s (refused_rebuild h (naming_of first second)) t
   -- a refused repair of any stripe
-  refuses-repair : {s t : List ℕ} (h : Geometry) (r : ℕ) → r ≢ 0 → RepairCall h s r t → Step g encoded s refusedRepair t
+  refuses_repair : {s t : List ℕ} (h : Geometry) (r : ℕ) → r ≢ 0 → RepairCall h s r t → Step g encoded s refused_repair t
   -- a loss, where the start is encoded, and the accepted rebuild of just its devices
   rebuilds : {s t : List ℕ} (lost : Lost) (left : List ℕ) → encoded → Loses g lost s left → RebuildCall g lost left 0 t
-      → Step g encoded s (lossMember g lost left) t
-  rebuilds-codes : {s t : List ℕ} (first second : ℕ) (lost : Lost) (left : List ℕ) → encoded → namingOf first second ≡ Loss lost → Loses g lost s left
+      → Step g encoded s (loss_member g lost left) t
+  rebuilds_codes : {s t : List ℕ} (first second : ℕ) (lost : Lost) (left : List ℕ) → encoded → naming_of first second ≡ Loss lost → Loses g lost s left
       → RebuildNamedCall g first second left 0 t
-      → Step g encoded s (lossMember g lost left) t
+      → Step g encoded s (loss_member g lost left) t
   -- damage of one device, where the start is encoded, and the accepted repair
   repairs : {s t : List ℕ} (d : Device) (left : List ℕ) → encoded → KnownLoss g.n (One d) → Loses g (One d) s left → RepairCall g left 0 t
-      → Step g encoded s (damageMember g d left) t
+      → Step g encoded s (damage_member g d left) t
 
 pub data Steps (g : Geometry) (encoded : Type 0) : List ℕ → List Member → List ℕ → Type 0 where
   done : {s : List ℕ} → Steps g encoded s [] s
@@ -57,15 +57,15 @@ pub data Steps (g : Geometry) (encoded : Type 0) : List ℕ → List Member → 
 
 -- a series of calls from the stripe s to the stripe t, and the members that they are
 abbrev pub Calls : Geometry → List ℕ → List Member → List ℕ → Type 0
-Calls g s = Steps g (EncodedStripe (layout_of g) reedSolomon s) s
+Calls g s = Steps g (EncodedStripe (layout_of g) reed_solomon s) s
 
 -- What demand 3 says of such a series. The members may stand in one, and t is what they make of s, so that what `EverySeries` says of
 -- them holds of t.
 pub record Called (g : Geometry) (s : List ℕ) (ms : List Member) (t : List ℕ) : Type 0 where
   pub allowed : All (AllowedFrom g s) ms
   pub runs : t ≡ run ms s
-  pub claim : Claim (layout_of g) reedSolomon s ms t
-  pub last-accepted : (k p : ℕ) → k < g.n → p < g.b → column g t p k ≡ valueOr (column g s p k) (latest ms k p)
+  pub claim : Claim (layout_of g) reed_solomon s ms t
+  pub last_accepted : (k p : ℕ) → k < g.n → p < g.b → column g t p k ≡ value_or (column g s p k) (latest ms k p)
   pub long : length t ≡ length s
   pub bytes : Slice t
-  pub ends-encoded : EncodedStripe (layout_of g) reedSolomon s → EncodedStripe (layout_of g) reedSolomon t
+  pub ends_encoded : EncodedStripe (layout_of g) reed_solomon s → EncodedStripe (layout_of g) reed_solomon t

@@ -20,21 +20,21 @@ pub record Layout : Type 0 where
 abbrev pub block_of : Layout → List ℕ → ℕ → ℕ → ℕ
 block_of L s r p = get_or s (L.place r p) 0
 
-abbrev pub columnOf : Layout → List ℕ → ℕ → Column
-columnOf L s i r = L.symbol (block_of L s r) i
+abbrev pub column_of : Layout → List ℕ → ℕ → Column
+column_of L s i r = L.symbol (block_of L s r) i
 
 -- What the theory of a series asks of a layout, with w bits to a symbol.
 pub record LawfulLayout (L : Layout) (w : ℕ) : Type 0 where
   -- bytes make symbols
-  pub symbol-lt : (u : ℕ → ℕ) → ((p : ℕ) → u p < 256) → (i : ℕ) → i < L.columns → L.symbol u i < 2 ^ w
+  pub symbol_lt : (u : ℕ → ℕ) → ((p : ℕ) → u p < 256) → (i : ℕ) → i < L.columns → L.symbol u i < 2 ^ w
   -- a block's bytes decide its symbols, and its symbols decide its bytes
-  pub symbol-same : (u v : ℕ → ℕ) → ((p : ℕ) → p < L.block → u p ≡ v p) → (i : ℕ) → i < L.columns → L.symbol u i ≡ L.symbol v i
-  pub symbol-only : (u v : ℕ → ℕ) → ((p : ℕ) → u p < 256) → ((p : ℕ) → v p < 256) → ((i : ℕ) → i < L.columns → L.symbol u i ≡ L.symbol v i)
+  pub symbol_same : (u v : ℕ → ℕ) → ((p : ℕ) → p < L.block → u p ≡ v p) → (i : ℕ) → i < L.columns → L.symbol u i ≡ L.symbol v i
+  pub symbol_only : (u v : ℕ → ℕ) → ((p : ℕ) → u p < 256) → ((p : ℕ) → v p < 256) → ((i : ℕ) → i < L.columns → L.symbol u i ≡ L.symbol v i)
       → (p : ℕ)
       → p < L.block
       → u p ≡ v p
   -- a buffer is nothing but its blocks
-  pub by-places : (s t : List ℕ) → length s ≡ L.size → length t ≡ L.size
+  pub by_places : (s t : List ℕ) → length s ≡ L.size → length t ≡ L.size
       → ((r p : ℕ) → r < L.disks + 2 → p < L.block → block_of L s r p ≡ block_of L t r p)
       → s ≡ t
 

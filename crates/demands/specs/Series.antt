@@ -1,8 +1,8 @@
 -- The series of demand 3, for any layout and code: its members, the plain table, the last value accepted for a byte, and the claim.
 use Rattle.std.specs.Prelude.{◌≡◌, ◌⊎◌, List, [], ◌∷◌, ◌++◌, ℕ, ◌+◌, ◌<◌, length, get_or}
 use Rattle.gf256.specs.Field.{sum}
-use Rattle.column.specs.Column.{Code, parityP, parityQ, syndromeP, syndromeQ, Encoded}
-use Rattle.demands.specs.Layout.{Layout, block_of, columnOf}
+use Rattle.column.specs.Column.{Code, parity_p, parity_q, syndrome_p, syndrome_q, Encoded}
+use Rattle.demands.specs.Layout.{Layout, block_of, column_of}
 
 -- every number of a list is a byte
 abbrev pub Bytes : List ℕ → Type 0
@@ -10,16 +10,16 @@ Bytes s = (j : ℕ) → get_or s j 0 < 256
 
 -- both equations hold in every column
 abbrev pub EncodedStripe : Layout → Code → List ℕ → Type 0
-EncodedStripe L code s = (i : ℕ) → i < L.columns → Encoded code L.disks (columnOf L s i)
+EncodedStripe L code s = (i : ℕ) → i < L.columns → Encoded code L.disks (column_of L s i)
 
 -- the value that was given to a byte, if one was
 pub data Latest : Type 0 where
   none : Latest
   given : ℕ → Latest
 
-abbrev pub valueOr : ℕ → Latest → ℕ
-valueOr v none = v
-valueOr v (given u) = u
+abbrev pub value_or : ℕ → Latest → ℕ
+value_or v none = v
+value_or v (given u) = u
 
 abbrev pub later : Latest → Latest → Latest
 later earlier none = earlier
@@ -44,14 +44,14 @@ abbrev pub Table : Type 0
 Table = ℕ → ℕ → ℕ
 
 abbrev pub feed : Member → Table → Table
-feed m t k p = valueOr (t k p) (m.gives k p)
+feed m t k p = value_or (t k p) (m.gives k p)
 
-abbrev pub feedAll : List Member → Table → Table
-feedAll [] t = t
-feedAll (m ∷ ms) t = feedAll ms (feed m t)
+abbrev pub feed_all : List Member → Table → Table
+feed_all [] t = t
+feed_all (m ∷ ms) t = feed_all ms (feed m t)
 
-abbrev pub tableAfter : Layout → List Member → List ℕ → Table
-tableAfter L ms s = feedAll ms (block_of L s)
+abbrev pub table_after : Layout → List Member → List ℕ → Table
+table_after L ms s = feed_all ms (block_of L s)
 
 -- the last value accepted for a byte: the one that the last member to give it one gave
 abbrev pub latest : List Member → ℕ → ℕ → Latest
@@ -61,12 +61,12 @@ latest (m ∷ ms) k p = later (m.gives k p) (latest ms k p)
 -- The claim of demand 3 about a whole series from s, which ends with t: the data are the table's, and P and Q differ from the equations over
 -- the table by what they differed at the start.
 pub record Claim (L : Layout) (code : Code) (s : List ℕ) (ms : List Member) (t : List ℕ) : Type 0 where
-  pub contents : (k p : ℕ) → k < L.disks → p < L.block → block_of L t k p ≡ tableAfter L ms s k p
+  pub contents : (k p : ℕ) → k < L.disks → p < L.block → block_of L t k p ≡ table_after L ms s k p
   pub first : (i : ℕ) → i < L.columns
-      → columnOf L t i L.disks ≡ sum (parityP L.disks (λ k. L.symbol (tableAfter L ms s k) i)) (syndromeP L.disks (columnOf L s i))
+      → column_of L t i L.disks ≡ sum (parity_p L.disks (λ k. L.symbol (table_after L ms s k) i)) (syndrome_p L.disks (column_of L s i))
   pub second : (i : ℕ) → i < L.columns
-      → columnOf L t i (L.disks + 1)
-      ≡ sum (parityQ code L.disks (λ k. L.symbol (tableAfter L ms s k) i)) (syndromeQ code L.disks (columnOf L s i))
+      → column_of L t i (L.disks + 1)
+      ≡ sum (parity_q code L.disks (λ k. L.symbol (table_after L ms s k) i)) (syndrome_q code L.disks (column_of L s i))
 
 -- no data byte is given a value by both
 abbrev pub Apart : Member → Member → Type 0
@@ -86,13 +86,13 @@ pub data Without : List Member → List Member → Type 0 where
 pub record EverySeries (L : Layout) (code : Code) (s : List ℕ) (Allowed : Member → Type 0) : Type 0 where
   pub claim : (ms : List Member) → All Allowed ms → Claim L code s ms (run ms s)
   -- each data byte is the last value accepted for it, or its first where there was none
-  pub last-accepted : (ms : List Member) → All Allowed ms → (k p : ℕ) → k < L.disks → p < L.block
-      → block_of L (run ms s) k p ≡ valueOr (block_of L s k p) (latest ms k p)
+  pub last_accepted : (ms : List Member) → All Allowed ms → (k p : ℕ) → k < L.disks → p < L.block
+      → block_of L (run ms s) k p ≡ value_or (block_of L s k p) (latest ms k p)
   -- the stripe keeps its length and its bytes
-  pub series-length : (ms : List Member) → All Allowed ms → length (run ms s) ≡ length s
-  pub series-bytes : (ms : List Member) → All Allowed ms → Bytes (run ms s)
+  pub series_length : (ms : List Member) → All Allowed ms → length (run ms s) ≡ length s
+  pub series_bytes : (ms : List Member) → All Allowed ms → Bytes (run ms s)
   -- an encoded start ends encoded
-  pub ends-encoded : (ms : List Member) → All Allowed ms → EncodedStripe L code s → EncodedStripe L code (run ms s)
+  pub ends_encoded : (ms : List Member) → All Allowed ms → EncodedStripe L code s → EncodedStripe L code (run ms s)
   -- two series with the same last values leave the stripe alike in every byte
   pub alike : (ms ns : List Member) → All Allowed ms → All Allowed ns
       → ((k p : ℕ) → k < L.disks → p < L.block → latest ms k p ≡ latest ns k p)
@@ -100,5 +100,5 @@ pub record EverySeries (L : Layout) (code : Code) (s : List ℕ) (Allowed : Memb
   -- members that give nothing may be left out
   pub left_out : (ms ns : List Member) → Without ms ns → All Allowed ms → run ms s ≡ run ns s
   -- neighbours that share no byte may change places anywhere
-  pub change-places : (before after : List Member) (a b : Member) → Apart a b → All Allowed (before ++ (a ∷ b ∷ after))
+  pub change_places : (before after : List Member) (a b : Member) → Apart a b → All Allowed (before ++ (a ∷ b ∷ after))
       → run (before ++ (a ∷ b ∷ after)) s ≡ run (before ++ (b ∷ a ∷ after)) s

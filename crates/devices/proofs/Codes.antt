@@ -11,9 +11,9 @@ use Rattle.column.specs.declared.Device.TheVariants.{Data, P, Q}
 use Rattle.devices.specs.declared.Named.TheVariants.{Device, Nothing, Meaningless}
 use Rattle.devices.specs.Codes.{named_by, is_none}
 
-pub is-none : (code : ℕ) → is_none (named_by code) ≡ eqb code 65535
+pub is_none_lem : (code : ℕ) → is_none (named_by code) ≡ eqb code 65535
 unfolding named_by
-is-none code = at (ℕ_discrete code 65535)
+is_none_lem code = at (ℕ_discrete code 65535)
   where
     go : (d p q : Bool) → is_none (choose d (Device (Data code)) (choose p (Device P) (choose q (Device Q) Meaningless))) ≡ false
     go true p q = refl

@@ -10,7 +10,7 @@ use native.Mathlib.Decide.{ℕ_discrete}
 use borrow.Author.Tests.{eq-eqb, ne_eqb}
 use lib.Dec.{eqb}
 use Rattle.base.specs.Refusal.{first_of}
-use Rattle.base.proofs.Choice.{either-comm}
+use Rattle.base.proofs.Choice.{either_comm}
 use Rattle.column.specs.declared.Device as Column
 use Rattle.column.specs.declared.Device.TheVariants.{Data, P, Q}
 use Rattle.column.specs.declared.Lost.TheVariants.{Two}
@@ -20,9 +20,9 @@ use Rattle.devices.specs.declared.Named.TheVariants.{Device, Nothing, Meaningles
 use Rattle.devices.specs.declared.Naming.{Naming}
 use Rattle.devices.specs.declared.Naming.TheVariants.{Loss, Wrong}
 use Rattle.shape.specs.Refusals.{library, refusal1, refusal2, refusal3}
-use Rattle.devices.specs.Refusals.{unknown, sameDevice, rebuildRefusal}
-use Rattle.devices.specs.Codes.{named_by, lossOf, namingOf, is_none, namedRefusal}
-use Rattle.devices.proofs.Codes.{is-none}
+use Rattle.devices.specs.Refusals.{unknown, same_device, rebuild_refusal}
+use Rattle.devices.specs.Codes.{named_by, loss_of, naming_of, is_none, named_refusal}
+use Rattle.devices.proofs.Codes.{is_none_lem}
 
 eqb_comm : (a b : ℕ) → eqb a b ≡ eqb b a
 eqb_comm a b = go (ℕ_discrete a b)
@@ -31,41 +31,41 @@ eqb_comm a b = go (ℕ_discrete a b)
     go (yes e) = eq-eqb a b e ∙ sym (eq-eqb b a (sym e))
     go (no n) = ne_eqb a b n ∙ sym (ne_eqb b a (λ e. n (sym e)))
 
-pub same-comm : (d e : Column.Device) → sameDevice d e ≡ sameDevice e d
-same-comm (Data k) (Data j) = eqb_comm k j
-same-comm (Data k) P = refl
-same-comm (Data k) Q = refl
-same-comm P (Data j) = refl
-same-comm P P = refl
-same-comm P Q = refl
-same-comm Q (Data j) = refl
-same-comm Q P = refl
-same-comm Q Q = refl
+pub same_comm : (d e : Column.Device) → same_device d e ≡ same_device e d
+same_comm (Data k) (Data j) = eqb_comm k j
+same_comm (Data k) P = refl
+same_comm (Data k) Q = refl
+same_comm P (Data j) = refl
+same_comm P P = refl
+same_comm P Q = refl
+same_comm Q (Data j) = refl
+same_comm Q P = refl
+same_comm Q Q = refl
 
-pub refusal-in-any-order : (g : Geometry) (len : ℕ) (d e : Column.Device) → rebuildRefusal g len (Two d e) ≡ rebuildRefusal g len (Two e d)
-refusal-in-any-order g len d e =
+pub refusal_in_any_order : (g : Geometry) (len : ℕ) (d e : Column.Device) → rebuild_refusal g len (Two d e) ≡ rebuild_refusal g len (Two e d)
+refusal_in_any_order g len d e =
     ap₂
     (λ (u t : Bool). first_of (refusal1 library g ∷ refusal2 library g ∷ refusal3 g len ∷ record { number = 4; applies = u } ∷ record { number = 5; applies = t } ∷ []))
-    (either-comm (unknown g d) (unknown g e))
-    (same-comm d e)
+    (either_comm (unknown g d) (unknown g e))
+    (same_comm d e)
 
 -- What holds of every pair exchanged, and of codes that are wrong both ways, holds of every two codes exchanged, unless one names none: a
 -- second of none means one lost.
 module _ (Same : Naming → Naming → Type 0) (pair : (d e : Column.Device) → Same (Loss (Two d e)) (Loss (Two e d))) (wrong : Same Wrong Wrong) where
-  losses-exchanged : (first second : Named) → is_none first ≡ false → is_none second ≡ false → Same (lossOf first second) (lossOf second first)
-  losses-exchanged (Device d) (Device e) a b = pair d e
-  losses-exchanged (Device d) Nothing a b = absurd (true≢false b)
-  losses-exchanged (Device d) Meaningless a b = wrong
-  losses-exchanged Nothing second a b = absurd (true≢false a)
-  losses-exchanged Meaningless (Device e) a b = wrong
-  losses-exchanged Meaningless Nothing a b = absurd (true≢false b)
-  losses-exchanged Meaningless Meaningless a b = wrong
+  losses_exchanged : (first second : Named) → is_none first ≡ false → is_none second ≡ false → Same (loss_of first second) (loss_of second first)
+  losses_exchanged (Device d) (Device e) a b = pair d e
+  losses_exchanged (Device d) Nothing a b = absurd (true≢false b)
+  losses_exchanged (Device d) Meaningless a b = wrong
+  losses_exchanged Nothing second a b = absurd (true≢false a)
+  losses_exchanged Meaningless (Device e) a b = wrong
+  losses_exchanged Meaningless Nothing a b = absurd (true≢false b)
+  losses_exchanged Meaningless Meaningless a b = wrong
 
-  pub codes-exchanged : (first second : ℕ) → first ≢ 65535 → second ≢ 65535 → Same (namingOf first second) (namingOf second first)
-  codes-exchanged first second a b =
-      losses-exchanged (named_by first) (named_by second) (is-none first ∙ ne_eqb first 65535 a) (is-none second ∙ ne_eqb second 65535 b)
+  pub codes_exchanged : (first second : ℕ) → first ≢ 65535 → second ≢ 65535 → Same (naming_of first second) (naming_of second first)
+  codes_exchanged first second a b =
+      losses_exchanged (named_by first) (named_by second) (is_none_lem first ∙ ne_eqb first 65535 a) (is_none_lem second ∙ ne_eqb second 65535 b)
 
-pub code-refusal-in-any-order : (g : Geometry) (len first second : ℕ) → first ≢ 65535 → second ≢ 65535
-    → namedRefusal g len (namingOf first second) ≡ namedRefusal g len (namingOf second first)
-code-refusal-in-any-order g len =
-    codes-exchanged (λ a b. namedRefusal g len a ≡ namedRefusal g len b) (refusal-in-any-order g len) refl
+pub code_refusal_in_any_order : (g : Geometry) (len first second : ℕ) → first ≢ 65535 → second ≢ 65535
+    → named_refusal g len (naming_of first second) ≡ named_refusal g len (naming_of second first)
+code_refusal_in_any_order g len =
+    codes_exchanged (λ a b. named_refusal g len a ≡ named_refusal g len b) (refusal_in_any_order g len) refl

@@ -11,41 +11,41 @@ use Rattle.devices.specs.declared.Named.TheVariants.{Device, Nothing, Meaningles
 use Rattle.devices.specs.declared.Naming.{Naming}
 use Rattle.devices.specs.declared.Naming.TheVariants.{Loss, Wrong}
 use Rattle.shape.specs.Refusals.{library, refusal1, refusal2, refusal3}
-use Rattle.devices.specs.Refusals.{unknownLost, twice}
+use Rattle.devices.specs.Refusals.{unknown_lost, twice}
 
 unfoldable pub named_by : ℕ → Named
 named_by code =
     choose (ltb code 255) (Device (Data code))
     (choose (eqb code 256) (Device P) (choose (eqb code 257) (Device Q) (choose (eqb code 65535) Nothing Meaningless)))
 
-abbrev pub lossOf : Named → Named → Naming
-lossOf (Device d) (Device e) = Loss (Two d e)
-lossOf (Device d) Nothing = Loss (One d)
-lossOf (Device d) Meaningless = Wrong
-lossOf Nothing second = Wrong
-lossOf Meaningless second = Wrong
+abbrev pub loss_of : Named → Named → Naming
+loss_of (Device d) (Device e) = Loss (Two d e)
+loss_of (Device d) Nothing = Loss (One d)
+loss_of (Device d) Meaningless = Wrong
+loss_of Nothing second = Wrong
+loss_of Meaningless second = Wrong
 
-abbrev pub namingOf : ℕ → ℕ → Naming
-namingOf first second = lossOf (named_by first) (named_by second)
+abbrev pub naming_of : ℕ → ℕ → Naming
+naming_of first second = loss_of (named_by first) (named_by second)
 
 -- codes that name no loss, or one of a device that the stripe lacks
 abbrev pub misnamed : Geometry → Naming → Bool
-misnamed g (Loss lost) = unknownLost g lost
+misnamed g (Loss lost) = unknown_lost g lost
 misnamed g Wrong = true
 
-abbrev pub namedTwice : Naming → Bool
-namedTwice (Loss lost) = twice lost
-namedTwice Wrong = false
+abbrev pub named_twice : Naming → Bool
+named_twice (Loss lost) = twice lost
+named_twice Wrong = false
 
 -- Rebuild by codes has rebuild's order.
-abbrev pub namedRefusal : Geometry → ℕ → Naming → ℕ
-namedRefusal g len naming =
+abbrev pub named_refusal : Geometry → ℕ → Naming → ℕ
+named_refusal g len naming =
     first_of
     (refusal1 library g
     ∷ refusal2 library g
     ∷ refusal3 g len
     ∷ record { number = 4; applies = misnamed g naming }
-    ∷ record { number = 5; applies = namedTwice naming }
+    ∷ record { number = 5; applies = named_twice naming }
     ∷ [])
 
 -- whether two codes that may name devices name none
@@ -54,5 +54,5 @@ is_none (Device d) = false
 is_none Nothing = true
 is_none Meaningless = false
 
-abbrev pub noDevices : Named → Named → Bool
-noDevices first second = both (is_none first) (is_none second)
+abbrev pub no_devices : Named → Named → Bool
+no_devices first second = both (is_none first) (is_none second)

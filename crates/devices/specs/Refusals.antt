@@ -15,34 +15,34 @@ unknown g (Data k) = leb g.n k
 unknown g P = false
 unknown g Q = false
 
-abbrev pub unknownLost : Geometry → Lost → Bool
-unknownLost g (One d) = unknown g d
-unknownLost g (Two d e) = either (unknown g d) (unknown g e)
+abbrev pub unknown_lost : Geometry → Lost → Bool
+unknown_lost g (One d) = unknown g d
+unknown_lost g (Two d e) = either (unknown g d) (unknown g e)
 
 abbrev pub refusal4 : Geometry → Lost → Refusal
-refusal4 g lost = record { number = 4; applies = unknownLost g lost }
+refusal4 g lost = record { number = 4; applies = unknown_lost g lost }
 
 -- the same device twice
-abbrev pub sameDevice : Device → Device → Bool
-sameDevice (Data k) (Data j) = eqb k j
-sameDevice (Data k) P = false
-sameDevice (Data k) Q = false
-sameDevice P (Data j) = false
-sameDevice P P = true
-sameDevice P Q = false
-sameDevice Q (Data j) = false
-sameDevice Q P = false
-sameDevice Q Q = true
+abbrev pub same_device : Device → Device → Bool
+same_device (Data k) (Data j) = eqb k j
+same_device (Data k) P = false
+same_device (Data k) Q = false
+same_device P (Data j) = false
+same_device P P = true
+same_device P Q = false
+same_device Q (Data j) = false
+same_device Q P = false
+same_device Q Q = true
 
 abbrev pub twice : Lost → Bool
 twice (One d) = false
-twice (Two d e) = sameDevice d e
+twice (Two d e) = same_device d e
 
 abbrev pub refusal5 : Lost → Refusal
 refusal5 lost = record { number = 5; applies = twice lost }
 
-abbrev pub lossRefusals : Geometry → Lost → List Refusal
-lossRefusals g lost = refusal4 g lost ∷ refusal5 lost ∷ []
+abbrev pub loss_refusals : Geometry → Lost → List Refusal
+loss_refusals g lost = refusal4 g lost ∷ refusal5 lost ∷ []
 
-abbrev pub rebuildRefusal : Geometry → ℕ → Lost → ℕ
-rebuildRefusal g len lost = first_of (refusal1 library g ∷ refusal2 library g ∷ refusal3 g len ∷ refusal4 g lost ∷ refusal5 lost ∷ [])
+abbrev pub rebuild_refusal : Geometry → ℕ → Lost → ℕ
+rebuild_refusal g len lost = first_of (refusal1 library g ∷ refusal2 library g ∷ refusal3 g len ∷ refusal4 g lost ∷ refusal5 lost ∷ [])

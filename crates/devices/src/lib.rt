@@ -2,8 +2,8 @@
 // numbers and any devices.
 ghost use Rattle.std.specs.Prelude.{◌≡◌};
 ghost use Rattle.base.specs.Refusal.{first_of};
-ghost use Rattle.devices.specs.Refusals.{lossRefusals, unknown, sameDevice, rebuildRefusal};
-ghost use Rattle.devices.specs.Codes.{named_by, lossOf, namingOf, noDevices, namedRefusal};
+ghost use Rattle.devices.specs.Refusals.{loss_refusals, unknown, same_device, rebuild_refusal};
+ghost use Rattle.devices.specs.Codes.{named_by, loss_of, naming_of, no_devices, named_refusal};
 
 use column::{Device, Lost};
 use shape::Geometry;
@@ -26,7 +26,7 @@ pub enum Naming {
 // ---- refusals; 0 where none applies
 
 pub fn rebuild_refusal(g: Geometry, len: usize, lost: Lost) -> u8
-    ensures { result ≡ rebuildRefusal g len lost }
+    ensures { result ≡ rebuild_refusal g len lost }
 {
     let refused = shape::encode_refusal(g, len);
     if refused != 0 {
@@ -37,7 +37,7 @@ pub fn rebuild_refusal(g: Geometry, len: usize, lost: Lost) -> u8
 
 // 4 and 5.
 pub fn loss_refusal(g: Geometry, lost: Lost) -> u8
-    ensures { result ≡ first_of (lossRefusals g lost) }
+    ensures { result ≡ first_of (loss_refusals g lost) }
 {
     match lost {
         Lost::One(device) => if lacks(g, device) { 4 } else { 0 },
@@ -46,7 +46,7 @@ pub fn loss_refusal(g: Geometry, lost: Lost) -> u8
 }
 
 fn pair_refusal(g: Geometry, first: Device, second: Device) -> u8
-    ensures { result ≡ first_of (lossRefusals g (Lost.Two first second)) }
+    ensures { result ≡ first_of (loss_refusals g (Lost.Two first second)) }
 {
     if lacks(g, first) {
         return 4;
@@ -61,7 +61,7 @@ fn pair_refusal(g: Geometry, first: Device, second: Device) -> u8
 }
 
 fn same_device(first: Device, second: Device) -> bool
-    ensures { result ≡ sameDevice first second }
+    ensures { result ≡ same_device first second }
 {
     match first {
         Device::Data(k) => match second {
@@ -96,7 +96,7 @@ fn lacks(g: Geometry, device: Device) -> bool
 
 // The refusal of a rebuild whose devices are given by their codes.
 pub fn named_refusal(g: Geometry, len: usize, first: usize, second: usize) -> u8
-    ensures { result ≡ namedRefusal g len (namingOf first second) }
+    ensures { result ≡ named_refusal g len (naming_of first second) }
 {
     match naming_of(first, second) {
         Naming::Loss(lost) => rebuild_refusal(g, len, lost),
@@ -109,14 +109,14 @@ pub fn named_refusal(g: Geometry, len: usize, first: usize, second: usize) -> u8
 
 // What the codes of a rebuild name.
 pub fn naming_of(first: usize, second: usize) -> Naming
-    ensures { result ≡ namingOf first second }
+    ensures { result ≡ naming_of first second }
 {
     loss_of(decode(first), decode(second))
 }
 
 // Whether both codes are that of none.
 pub fn no_devices(first: usize, second: usize) -> bool
-    ensures { result ≡ noDevices (named_by first) (named_by second) }
+    ensures { result ≡ no_devices (named_by first) (named_by second) }
 {
     if first != 65535 {
         return false;
@@ -143,7 +143,7 @@ fn decode(code: usize) -> Named
 }
 
 fn loss_of(first: Named, second: Named) -> Naming
-    ensures { result ≡ lossOf first second }
+    ensures { result ≡ loss_of first second }
 {
     match first {
         Named::Device(d) => match second {

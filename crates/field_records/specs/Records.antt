@@ -16,30 +16,30 @@ abbrev pub bytes_of : Answer → List ℕ
 bytes_of (Is v) = 1 ∷ v ∷ []
 bytes_of None = 0 ∷ 0 ∷ []
 
-abbrev pub ofInverse : Inverse → Answer
-ofInverse (InverseIs y) = Is y.0
-ofInverse NoInverse = None
+abbrev pub of_inverse : Inverse → Answer
+of_inverse (InverseIs y) = Is y.0
+of_inverse NoInverse = None
 
-abbrev pub ofLogarithm : Logarithm → Answer
-ofLogarithm (LogarithmIs e) = Is e
-ofLogarithm NoLogarithm = None
+abbrev pub of_logarithm : Logarithm → Answer
+of_logarithm (LogarithmIs e) = Is e
+of_logarithm NoLogarithm = None
 
 -- The operations by their numbers, from 1 on; any other number answers none.
 unfoldable pub answer : ℕ → ℕ → ℕ → Answer
 answer operation a b =
-    get_or (None ∷ Is (sum a (b % 256)) ∷ Is (product a (b % 256)) ∷ Is (power a b) ∷ ofInverse (inverse a) ∷ ofLogarithm (logarithm a) ∷ Is (double a) ∷ []) operation None
+    get_or (None ∷ Is (sum a (b % 256)) ∷ Is (product a (b % 256)) ∷ Is (power a b) ∷ of_inverse (inverse a) ∷ of_logarithm (logarithm a) ∷ Is (double a) ∷ []) operation None
 
 -- the number that k bytes write, high byte first
-unfoldable pub bigEndian : ℕ → (ℕ → ℕ) → ℕ
-bigEndian zero byte = 0
-bigEndian (suc k) byte = bigEndian k byte * 256 + byte k
+unfoldable pub big_endian : ℕ → (ℕ → ℕ) → ℕ
+big_endian zero byte = 0
+big_endian (suc k) byte = big_endian k byte * 256 + byte k
 
 -- the number of k bytes that stands at a place
 abbrev pub number_at : ℕ → List ℕ → ℕ → ℕ
-number_at k bytes at = bigEndian k (λ j. get_or bytes (at + j) 0)
+number_at k bytes at = big_endian k (λ j. get_or bytes (at + j) 0)
 
-abbrev pub answerAt : List ℕ → ℕ → Answer
-answerAt bytes at = answer (get_or bytes at 0) (get_or bytes (at + 1) 0) (number_at 8 bytes (at + 2))
+abbrev pub answer_at : List ℕ → ℕ → Answer
+answer_at bytes at = answer (get_or bytes at 0) (get_or bytes (at + 1) 0) (number_at 8 bytes (at + 2))
 
 -- how many whole records there are
 abbrev pub records : List ℕ → ℕ
@@ -48,7 +48,7 @@ records bytes = length bytes / 10
 -- places 2j and 2j + 1 get the answer to record j, and a place past the last one keeps what it held
 abbrev pub placed : List ℕ → ℕ → ℕ → ℕ
 placed bytes place old =
-    choose (ltb place (2 * records bytes)) (get_or (bytes_of (answerAt bytes (10 * (place / 2)))) (place % 2) 0) old
+    choose (ltb place (2 * records bytes)) (get_or (bytes_of (answer_at bytes (10 * (place / 2)))) (place % 2) 0) old
 
 unfoldable pub answered : List ℕ → List ℕ
 answered bytes = tabulate (length bytes) (λ j. placed bytes j (get_or bytes j 0))

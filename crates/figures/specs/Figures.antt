@@ -1,13 +1,13 @@
 -- The bench figures that are proved: one table of cases with the values that they must give, in the order and as printed in document
 -- 01, with the inverse of 00 and the paper's logarithm of 10, and one theorem, that the definitions give them. That 00 has no logarithm is
--- the law `logarithm-none` of the field.
+-- the law `logarithm_none` of the field.
 use Rattle.std.specs.Prelude.{ℕ, suc, ◌-◌, Bool, true, false, ◌&&◌, List, [], ◌∷◌, T, eqb, length, get_or}
 use Rattle.gf256.specs.declared.Inverse.TheVariants.{Is as InverseIs, None as NoInverse}
 use Rattle.gf256.specs.declared.Logarithm.TheVariants.{Is as LogarithmIs, None as NoLogarithm}
-use Rattle.gf256.specs.Field.{product, power, inverse, carryless, remainder, firstExponent, logarithm}
+use Rattle.gf256.specs.Field.{product, power, inverse, carryless, remainder, first_exponent, logarithm}
 use Rattle.column.specs.declared.Device.TheVariants.{Data}
 use Rattle.column.specs.declared.Lost.TheVariants.{Two}
-use Rattle.column.specs.Column.{Column, total, coefficients, reedSolomon, encodeColumn, writeColumn, rebuildColumn, verdictOf, verdict}
+use Rattle.column.specs.Column.{Column, total, coefficients, reed_solomon, encode_column, write_column, rebuild_column, verdict_of, verdict}
 
 -- A case and its value. A column is a list: the data, and where the case has parities, P and Q after them.
 pub data Row : Type 0 where
@@ -21,8 +21,8 @@ pub data Row : Type 0 where
   Lose : (bytes : List ℕ) (x y dx dy : ℕ) → Row
   Verdict : (bytes : List ℕ) (expected : ℕ) → Row
 
-abbrev columnOf : List ℕ → Column
-columnOf bytes role = get_or bytes role 0
+abbrev column_of : List ℕ → Column
+column_of bytes role = get_or bytes role 0
 
 -- the data disks of a column with parities
 abbrev disks : List ℕ → ℕ
@@ -32,7 +32,7 @@ abbrev parities : ℕ → Column → ℕ → ℕ → Bool
 parities n c p q = eqb (c n) p && eqb (c (suc n)) q
 
 abbrev rebuilt : List ℕ → ℕ → ℕ → Column
-rebuilt bytes x y = rebuildColumn reedSolomon (disks bytes) (Two (Data x) (Data y)) (columnOf bytes)
+rebuilt bytes x y = rebuild_column reed_solomon (disks bytes) (Two (Data x) (Data y)) (column_of bytes)
 
 -- whether the definitions give the value
 abbrev pub holds : Row → Bool
@@ -41,10 +41,10 @@ holds (Power x exponent expected) = eqb (power x exponent) expected
 holds (Inverse x expected) = elim (inverse x) [ InverseIs y ↦ eqb y.0 expected | NoInverse ↦ false ]
 holds (InverseNone x) = elim (inverse x) [ InverseIs y ↦ false | NoInverse ↦ true ]
 holds (Logarithm x expected) = elim (logarithm x) [ LogarithmIs e ↦ eqb e expected | NoLogarithm ↦ false ]
-holds (Encode bytes p q) = parities (length bytes) (encodeColumn reedSolomon (length bytes) (columnOf bytes)) p q
-holds (Write bytes disk new p q) = parities (disks bytes) (writeColumn reedSolomon (disks bytes) disk new (columnOf bytes)) p q
+holds (Encode bytes p q) = parities (length bytes) (encode_column reed_solomon (length bytes) (column_of bytes)) p q
+holds (Write bytes disk new p q) = parities (disks bytes) (write_column reed_solomon (disks bytes) disk new (column_of bytes)) p q
 holds (Lose bytes x y dx dy) = eqb (rebuilt bytes x y x) dx && eqb (rebuilt bytes x y y) dy
-holds (Verdict bytes expected) = eqb (verdict (disks bytes) (columnOf bytes)) expected
+holds (Verdict bytes expected) = eqb (verdict (disks bytes) (column_of bytes)) expected
 
 abbrev pub table : List Row
 table =
@@ -67,6 +67,6 @@ abbrev all : List Row → Bool
 all [] = true
 all (r ∷ rs) = holds r && all rs
 
-pub figures-hold : T (all table)
-unfolding product power inverse carryless remainder firstExponent logarithm total coefficients reedSolomon verdictOf
-figures-hold = tt
+pub figures_hold : T (all table)
+unfolding product power inverse carryless remainder first_exponent logarithm total coefficients reed_solomon verdict_of
+figures_hold = tt

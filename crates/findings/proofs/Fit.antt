@@ -7,8 +7,8 @@ use native.Mathlib.Omega.{arith}
 use Rattle.findings.specs.Findings.{Code, or_else, finding}
 use Rattle.findings.specs.Cone.{Cone, Reports}
 use Rattle.findings.specs.declared.Finding.TheVariants.{Fit}
-use Rattle.matrix.proofs.Fold.{fold-none}
-use Rattle.findings.proofs.Reports.{passes, pair-passes, reported}
+use Rattle.matrix.proofs.Fold.{fold_none}
+use Rattle.findings.proofs.Reports.{passes, pair_passes, reported}
 
 fit→cone : (code : Code) (count : ℕ) → finding code count ≡ Fit → Cone code count
 fit→cone code count e = subst (Reports code count) e (reported code count)
@@ -17,9 +17,9 @@ cone→fit : (code : Code) (count : ℕ) → Cone code count → finding code co
 unfolding finding
 cone→fit code count h =
     ap₂ or_else
-    (fold-none or_else Fit refl count _ (λ i l. passes code i (h.each i l)))
-    (fold-none or_else Fit refl count _
-    (λ i li. fold-none or_else Fit refl count _ (λ j lj. pair-passes code i j (λ l. h.sums i j li lj (λ e. omega arith)))))
+    (fold_none or_else Fit refl count _ (λ i l. passes code i (h.each i l)))
+    (fold_none or_else Fit refl count _
+    (λ i li. fold_none or_else Fit refl count _ (λ j lj. pair_passes code i j (λ l. h.sums i j li lj (λ e. omega arith)))))
 
-pub fit-cone : (code : Code) (count : ℕ) → (finding code count ≡ Fit) ↔ Cone code count
-fit-cone code count = (fit→cone code count, cone→fit code count)
+pub fit_cone : (code : Code) (count : ℕ) → (finding code count ≡ Fit) ↔ Cone code count
+fit_cone code count = (fit→cone code count, cone→fit code count)

@@ -7,14 +7,14 @@ use lib.Dec.{ltb}
 use Rattle.matrix.specs.Matrix.{Matrix, add, singular}
 use Rattle.findings.specs.Findings.{Code, X, or_else, when, finding}
 use Rattle.findings.specs.declared.Finding.TheVariants.{Fit, Singular, Pair}
-use Rattle.matrix.proofs.Fold.{fold-ext}
+use Rattle.matrix.proofs.Fold.{fold_ext}
 
-pub finding-places : (code code' : Code) (count : ℕ) → ((i : ℕ) → i < count → X code i ≡ X code' i) → finding code count ≡ finding code' count
+pub finding_places : (code code' : Code) (count : ℕ) → ((i : ℕ) → i < count → X code i ≡ X code' i) → finding code count ≡ finding code' count
 unfolding finding
-finding-places code code' count agree =
+finding_places code code' count agree =
     ap₂ or_else
-    (fold-ext or_else Fit count _ _ (λ i l. ap (λ (m : Matrix). when (singular m) (Singular i)) (agree i l)))
-    (fold-ext or_else Fit count _ _
+    (fold_ext or_else Fit count _ _ (λ i l. ap (λ (m : Matrix). when (singular m) (Singular i)) (agree i l)))
+    (fold_ext or_else Fit count _ _
     (λ i li.
-    fold-ext or_else Fit count _ _
+    fold_ext or_else Fit count _ _
     (λ j lj. ap₂ (λ (m n : Matrix). when (ltb i j && singular (add m n)) (Pair i j)) (agree i li) (agree j lj))))

@@ -28,24 +28,24 @@ abbrev pub when : Bool → Finding → Finding
 when true g = g
 when false g = Fit
 
-abbrev pub singularAt : Code → ℕ → Finding
-singularAt code i = when (singular (X code i)) (Singular i)
+abbrev pub singular_at : Code → ℕ → Finding
+singular_at code i = when (singular (X code i)) (Singular i)
 
 abbrev pub pair_at : Code → ℕ → ℕ → Finding
 pair_at code i j = when (ltb i j && singular (add (X code i) (X code j))) (Pair i j)
 
 -- the first pair, in dictionary order: the first i, and for it the first j
-abbrev pub firstPair : Code → ℕ → Finding
-firstPair code count = first count (λ i. first count (λ j. pair_at code i j))
+abbrev pub first_pair : Code → ℕ → Finding
+first_pair code count = first count (λ i. first count (λ j. pair_at code i j))
 
 -- the first singular matrix; if there is none, the first pair whose sum is singular; if there is none, Fit
 unfoldable pub finding : Code → ℕ → Finding
-finding code count = or_else (first count (λ i. singularAt code i)) (firstPair code count)
+finding code count = or_else (first count (λ i. singular_at code i)) (first_pair code count)
 
-abbrev pub isFit : Finding → Bool
-isFit Fit = true
-isFit (Singular i) = false
-isFit (Pair i j) = false
+abbrev pub is_fit : Finding → Bool
+is_fit Fit = true
+is_fit (Singular i) = false
+is_fit (Pair i j) = false
 
 -- the places that a finding names: none where the code is fit, a singular matrix, or a pair in its order
 abbrev pub places_of : Finding → List ℕ

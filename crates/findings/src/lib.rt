@@ -3,10 +3,10 @@
 ghost use Rattle.std.specs.Prelude.{◌≡◌, ◌≤◌, ◌<◌, min};
 ghost use Rattle.findings.specs.Findings.{
   first,
-  isFit,
-  singularAt,
+  is_fit,
+  singular_at,
   pair_at,
-  firstPair,
+  first_pair,
   finding,
 };
 
@@ -19,7 +19,7 @@ pub enum Finding {
 }
 
 pub fn is_fit(f: Finding) -> bool
-    ensures { result ≡ isFit f }
+    ensures { result ≡ is_fit f }
 {
     match f {
         Finding::Fit => true,
@@ -30,7 +30,7 @@ pub fn is_fit(f: Finding) -> bool
 
 fn first_singular(code: [[u8; 8]; 8], count: usize) -> Finding
     requires { count ≤ 8 }
-    ensures { result ≡ first count (λ i. singularAt code i) }
+    ensures { result ≡ first count (λ i. singular_at code i) }
 {
     for i in 0..count {
         let m = code[i];
@@ -58,7 +58,7 @@ fn first_partner(code: [[u8; 8]; 8], count: usize, i: usize) -> Finding
 
 fn first_pair(code: [[u8; 8]; 8], count: usize) -> Finding
     requires { count ≤ 8 }
-    ensures { result ≡ firstPair code count }
+    ensures { result ≡ first_pair code count }
 {
     for i in 0..count {
         let found = first_partner(code, count, i);

@@ -20,8 +20,8 @@ none_below (suc n) c h = ⊎_elim (λ e. absurd (h.1 (sym e))) (λ l. l) (eq-or-
 pub data From {R : Type 0} (f : ℕ → R) (c : ℕ) (r : R) (n : ℕ) (A : Type 0) : Type 0 where
   from : (A → r ≡ f c) → From f c r n A
 
-pub by-arms : {R : Type 0} (f : ℕ → R) (c : ℕ) (r : R) {A : Type 0} → A → From f c r 0 A → r ≡ f c
-by-arms f c r w (from is) = is w
+pub by_arms : {R : Type 0} (f : ℕ → R) (c : ℕ) (r : R) {A : Type 0} → A → From f c r 0 A → r ≡ f c
+by_arms f c r w (from is) = is w
 
 at : {R : Type 0} (f : ℕ → R) {c n : ℕ} {r : R} {A : Type 0} → (A → c ≡ n) → (a : A) × (r ≡ f n) → r ≡ f c
 at f key w = w.1 ∙ ap f (sym (key w.0))

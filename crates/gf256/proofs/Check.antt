@@ -23,11 +23,11 @@ abbrev pub all : ℕ → (ℕ → Bool) → Bool
 all zero test = true
 all (suc n) test = both (test n) (all n test)
 
-pub all-at : (n : ℕ) (test : ℕ → Bool) → T (all n test) → (k : ℕ) → k < n → T (test k)
-all-at zero test t k h = absurd (not-suc-le-zero h)
-all-at (suc n) test t k h =
+pub all_at : (n : ℕ) (test : ℕ → Bool) → T (all n test) → (k : ℕ) → k < n → T (test k)
+all_at zero test t k h = absurd (not-suc-le-zero h)
+all_at (suc n) test t k h =
     ⊎_elim (λ e. subst (λ (m : ℕ). T (test m)) (sym e) (both_left (test n) (all n test) t))
-    (λ l. all-at n test (both_right (test n) (all n test) t) k l)
+    (λ l. all_at n test (both_right (test n) (all n test) t) k l)
     (eq-or-lt_of_le (le_of_suc-le-suc h))
 
 -- two functions are the same at every number below n
@@ -35,4 +35,4 @@ abbrev pub same : ℕ → (ℕ → ℕ) → (ℕ → ℕ) → Bool
 same n f g = all n (λ k. eqb (f k) (g k))
 
 pub same_at : (n : ℕ) (f g : ℕ → ℕ) → T (same n f g) → (k : ℕ) → k < n → f k ≡ g k
-same_at n f g t k h = eqb→eq (f k) (g k) (all-at n (λ k. eqb (f k) (g k)) t k h)
+same_at n f g t k h = eqb→eq (f k) (g k) (all_at n (λ k. eqb (f k) (g k)) t k h)

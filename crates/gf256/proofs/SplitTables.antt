@@ -13,16 +13,16 @@ use lib.Pow.{pow-lt, shr_lt}
 use lib.Bits.{xor_comm}
 use Rattle.gf256.specs.declared.split_tables.Rows.{Rows}
 use Rattle.gf256.specs.Field.{bit, sum, double, product, carryless, remainder, entry_of}
-use Rattle.gf256.proofs.Check.{all, all-at, same, same_at}
-use Rattle.gf256.proofs.Additive.{Additive, additive-sum, additive-after, additive-digit, additive-shr, agree, parted}
-use Rattle.gf256.proofs.Product.{doubled, doubled-lt, by-power, product-right, product_lt, product-assoc, double-product}
+use Rattle.gf256.proofs.Check.{all, all_at, same, same_at}
+use Rattle.gf256.proofs.Additive.{Additive, additive_sum, additive_after, additive_digit, additive_shr, agree, parted}
+use Rattle.gf256.proofs.Product.{doubled, doubled_lt, by_power, product_right, product_lt, product_assoc, double_product}
 
 abbrev row : ℕ → ℕ → ℕ → ℕ → Rows
 row a b c d = record { low0 = a; low8 = b; high0 = c; high8 = d }
 
 -- row c: the tables of c
-unfoldable pub splitRows : List Rows
-splitRows =
+unfoldable pub split_rows : List Rows
+split_rows =
     row 0x0000000000000000 0x0000000000000000 0x0000000000000000 0x0000000000000000 ∷
     row 0x0706050403020100 0x0f0e0d0c0b0a0908 0x7060504030201000 0xf0e0d0c0b0a09080 ∷
     row 0x0e0c0a0806040200 0x1e1c1a1816141210 0xe0c0a08060402000 0xfdddbd9d7d5d3d1d ∷
@@ -286,7 +286,7 @@ at (x ∷ xs) zero = x
 at (x ∷ xs) (suc c) = at xs c
 
 unfoldable pub rows_of : ℕ → Rows
-rows_of = at splitRows
+rows_of = at split_rows
 
 -- entry p of each table of c
 unfoldable pub low : ℕ → ℕ → ℕ
@@ -300,76 +300,76 @@ high c p = entry_of (rows_of c).high0 (rows_of c).high8 p
 abbrev spread : (ℕ → ℕ) → ℕ → ℕ
 spread f p = sum (sum (bit p 0 * f 1) (bit p 1 * f 2)) (sum (bit p 2 * f 4) (bit p 3 * f 8))
 
-spread-additive : (f : ℕ → ℕ) → Additive (spread f)
-spread-additive f =
-    additive-sum (λ p. sum (bit p 0 * f 1) (bit p 1 * f 2)) (λ p. sum (bit p 2 * f 4) (bit p 3 * f 8))
-    (additive-sum (λ p. bit p 0 * f 1) (λ p. bit p 1 * f 2) (digit 0 (f 1)) (digit 1 (f 2)))
-    (additive-sum (λ p. bit p 2 * f 4) (λ p. bit p 3 * f 8) (digit 2 (f 4)) (digit 3 (f 8)))
+spread_additive : (f : ℕ → ℕ) → Additive (spread f)
+spread_additive f =
+    additive_sum (λ p. sum (bit p 0 * f 1) (bit p 1 * f 2)) (λ p. sum (bit p 2 * f 4) (bit p 3 * f 8))
+    (additive_sum (λ p. bit p 0 * f 1) (λ p. bit p 1 * f 2) (digit 0 (f 1)) (digit 1 (f 2)))
+    (additive_sum (λ p. bit p 2 * f 4) (λ p. bit p 3 * f 8) (digit 2 (f 4)) (digit 3 (f 8)))
   where
     digit : (i m : ℕ) → Additive (λ p. bit p i * m)
-    digit i m = additive-after (λ d. d % 2 * m) (λ p. p / 2 ^ i) (additive-digit m) (additive-shr i)
+    digit i m = additive_after (λ d. d % 2 * m) (λ p. p / 2 ^ i) (additive_digit m) (additive_shr i)
 
 abbrev spread_at : ℕ → Bool
 spread_at c = same 16 (low c) (spread (low c))
 
-spread-tested : T (all 256 spread_at)
-unfolding low rows_of splitRows entry_of
-spread-tested = tt
+spread_tested : T (all 256 spread_at)
+unfolding low rows_of split_rows entry_of
+spread_tested = tt
 
 abbrev doublings : ℕ → ℕ → ℕ
 doublings zero x = x
 doublings (suc k) x = double (doublings k x)
 
-doublings-are : (k x : ℕ) → x < 256 → doublings k x ≡ doubled k x
-doublings-are zero x h = refl
-doublings-are (suc k) x h = ap double (doublings-are k x h) ∙ double-product (doubled k x) (doubled-lt k x h)
+doublings_are : (k x : ℕ) → x < 256 → doublings k x ≡ doubled k x
+doublings_are zero x h = refl
+doublings_are (suc k) x h = ap double (doublings_are k x h) ∙ double_product (doubled k x) (doubled_lt k x h)
 
 abbrev one_at : ℕ → Bool
 one_at c = same 4 (λ i. low c (2 ^ i)) (λ i. doublings i c)
 
-one-tested : T (all 256 one_at)
-unfolding low rows_of splitRows entry_of double
-one-tested = tt
+one_tested : T (all 256 one_at)
+unfolding low rows_of split_rows entry_of double
+one_tested = tt
 
-pub low-entry : (c p : ℕ) → c < 256 → p < 16 → low c p ≡ product c p
-low-entry c p hc hp =
+pub low_entry : (c p : ℕ) → c < 256 → p < 16 → low c p ≡ product c p
+low_entry c p hc hp =
     sums p hp
-    ∙ agree (spread (low c)) (product c) (spread-additive (low c)) (product-right c) 4
+    ∙ agree (spread (low c)) (product c) (spread_additive (low c)) (product_right c) 4
     (λ i hi.
     sym (sums (2 ^ i) (pow-lt hi))
-    ∙ same_at 4 (λ i. low c (2 ^ i)) (λ i. doublings i c) (all-at 256 one_at one-tested c hc) i hi
-    ∙ doublings-are i c hc
-    ∙ sym (by-power i c (omega arith) hc))
+    ∙ same_at 4 (λ i. low c (2 ^ i)) (λ i. doublings i c) (all_at 256 one_at one_tested c hc) i hi
+    ∙ doublings_are i c hc
+    ∙ sym (by_power i c (omega arith) hc))
     p hp
   where
     sums : (p : ℕ) → p < 16 → low c p ≡ spread (low c) p
-    sums = same_at 16 (low c) (spread (low c)) (all-at 256 spread_at spread-tested c hc)
+    sums = same_at 16 (low c) (spread (low c)) (all_at 256 spread_at spread_tested c hc)
 
 -- ---- The high table, that of the low half for the multiplier times 10.
-first-tested : T (same 256 (λ c. (rows_of c).high0) (λ c. (rows_of (product c 16)).low0))
-unfolding rows_of splitRows product carryless remainder
-first-tested = tt
+first_tested : T (same 256 (λ c. (rows_of c).high0) (λ c. (rows_of (product c 16)).low0))
+unfolding rows_of split_rows product carryless remainder
+first_tested = tt
 
-second-tested : T (same 256 (λ c. (rows_of c).high8) (λ c. (rows_of (product c 16)).low8))
-unfolding rows_of splitRows product carryless remainder
-second-tested = tt
+second_tested : T (same 256 (λ c. (rows_of c).high8) (λ c. (rows_of (product c 16)).low8))
+unfolding rows_of split_rows product carryless remainder
+second_tested = tt
 
-shift-tested : T (same 16 (product 16) (λ p. p * 16))
+shift_tested : T (same 16 (product 16) (λ p. p * 16))
 unfolding product carryless remainder
-shift-tested = tt
+shift_tested = tt
 
-pub high-entry : (c p : ℕ) → c < 256 → p < 16 → high c p ≡ product c (p * 16)
+pub high_entry : (c p : ℕ) → c < 256 → p < 16 → high c p ≡ product c (p * 16)
 unfolding low high
-high-entry c p hc hp =
-    ap₂ (λ (v w : ℕ). entry_of v w p) (same_at 256 (λ c. (rows_of c).high0) (λ c. (rows_of (product c 16)).low0) first-tested c hc)
-    (same_at 256 (λ c. (rows_of c).high8) (λ c. (rows_of (product c 16)).low8) second-tested c hc)
-    ∙ low-entry (product c 16) p (product_lt c 16) hp
-    ∙ product-assoc c 16 p
-    ∙ ap (product c) (same_at 16 (product 16) (λ p. p * 16) shift-tested p hp)
+high_entry c p hc hp =
+    ap₂ (λ (v w : ℕ). entry_of v w p) (same_at 256 (λ c. (rows_of c).high0) (λ c. (rows_of (product c 16)).low0) first_tested c hc)
+    (same_at 256 (λ c. (rows_of c).high8) (λ c. (rows_of (product c 16)).low8) second_tested c hc)
+    ∙ low_entry (product c 16) p (product_lt c 16) hp
+    ∙ product_assoc c 16 p
+    ∙ ap (product c) (same_at 16 (product 16) (λ p. p * 16) shift_tested p hp)
 
 -- ---- Every product is the sum of one entry of each.
-pub product-by-entries : (c x : ℕ) → c < 256 → x < 256 → sum (low c (x % 16)) (high c (x / 16)) ≡ product c x
-product-by-entries c x hc hx =
-    ap₂ sum (low-entry c (x % 16) hc (mod-lt x (zero-lt-suc 15))) (high-entry c (x / 16) hc (shr_lt 4 4 hx))
+pub product_by_entries : (c x : ℕ) → c < 256 → x < 256 → sum (low c (x % 16)) (high c (x / 16)) ≡ product c x
+product_by_entries c x hc hx =
+    ap₂ sum (low_entry c (x % 16) hc (mod-lt x (zero-lt-suc 15))) (high_entry c (x / 16) hc (shr_lt 4 4 hx))
     ∙ xor_comm (product c (x % 16)) (product c (x / 16 * 16))
-    ∙ sym (ap (product c) (parted x 4) ∙ product-right c (x / 16 * 16) (x % 16))
+    ∙ sym (ap (product c) (parted x 4) ∙ product_right c (x / 16 * 16) (x % 16))

@@ -7,7 +7,7 @@ use Prim.Native.Nat.{ℕ, suc, ◌+◌, ◌-◌, ◌%◌, ◌<◌}
 use lib.Dec.{T, ltb, ltb→lt}
 use lib.ListN.{get_or}
 use Rattle.gf256.specs.Field.{double}
-use Rattle.gf256.proofs.Check.{all, all-at, same, same_at}
+use Rattle.gf256.proofs.Check.{all, all_at, same, same_at}
 
 unfoldable pub powers : List ℕ
 powers =
@@ -39,42 +39,42 @@ logarithms =
     89 ∷ 95 ∷ 176 ∷ 156 ∷ 169 ∷ 160 ∷ 81 ∷ 11 ∷ 245 ∷ 22 ∷ 235 ∷ 122 ∷ 117 ∷ 44 ∷ 215 ∷ 79 ∷ 174 ∷ 213 ∷ 233 ∷ 230 ∷ 231 ∷ 173 ∷
     232 ∷ 116 ∷ 214 ∷ 244 ∷ 234 ∷ 168 ∷ 80 ∷ 88 ∷ 175 ∷ []
 
-pub powers-first : get_or powers 0 0 ≡ 1
+pub powers_first : get_or powers 0 0 ≡ 1
 unfolding powers
-powers-first = refl
+powers_first = refl
 
-next-tested : T (same 255 (λ e. get_or powers ((e + 1) % 255) 0) (λ e. double (get_or powers e 0)))
+next_tested : T (same 255 (λ e. get_or powers ((e + 1) % 255) 0) (λ e. double (get_or powers e 0)))
 unfolding powers double
-next-tested = tt
+next_tested = tt
 
-pub powers-next : (e : ℕ) → e < 255 → get_or powers ((e + 1) % 255) 0 ≡ double (get_or powers e 0)
-powers-next = same_at 255 (λ e. get_or powers ((e + 1) % 255) 0) (λ e. double (get_or powers e 0)) next-tested
+pub powers_next : (e : ℕ) → e < 255 → get_or powers ((e + 1) % 255) 0 ≡ double (get_or powers e 0)
+powers_next = same_at 255 (λ e. get_or powers ((e + 1) % 255) 0) (λ e. double (get_or powers e 0)) next_tested
 
-nonzero-tested : T (all 255 (λ e. ltb 0 (get_or powers e 0)))
+nonzero_tested : T (all 255 (λ e. ltb 0 (get_or powers e 0)))
 unfolding powers
-nonzero-tested = tt
+nonzero_tested = tt
 
-pub powers-nonzero : (e : ℕ) → e < 255 → 0 < get_or powers e 0
-powers-nonzero e h = ltb→lt 0 (get_or powers e 0) (all-at 255 (λ e. ltb 0 (get_or powers e 0)) nonzero-tested e h)
+pub powers_nonzero : (e : ℕ) → e < 255 → 0 < get_or powers e 0
+powers_nonzero e h = ltb→lt 0 (get_or powers e 0) (all_at 255 (λ e. ltb 0 (get_or powers e 0)) nonzero_tested e h)
 
 -- entry x of the logarithms is that of x + 1
-logarithm-tested : T (same 255 (λ e. get_or logarithms (get_or powers e 0 - 1) 0) (λ e. e))
+logarithm_tested : T (same 255 (λ e. get_or logarithms (get_or powers e 0 - 1) 0) (λ e. e))
 unfolding powers logarithms
-logarithm-tested = tt
+logarithm_tested = tt
 
-pub logarithm-power : (e : ℕ) → e < 255 → get_or logarithms (get_or powers e 0 - 1) 0 ≡ e
-logarithm-power = same_at 255 (λ e. get_or logarithms (get_or powers e 0 - 1) 0) (λ e. e) logarithm-tested
+pub logarithm_power : (e : ℕ) → e < 255 → get_or logarithms (get_or powers e 0 - 1) 0 ≡ e
+logarithm_power = same_at 255 (λ e. get_or logarithms (get_or powers e 0 - 1) 0) (λ e. e) logarithm_tested
 
-power-tested : T (same 255 (λ x. get_or powers (get_or logarithms x 0) 0) suc)
+power_tested : T (same 255 (λ x. get_or powers (get_or logarithms x 0) 0) suc)
 unfolding powers logarithms
-power-tested = tt
+power_tested = tt
 
-pub power-logarithm : (x : ℕ) → x < 255 → get_or powers (get_or logarithms x 0) 0 ≡ suc x
-power-logarithm = same_at 255 (λ x. get_or powers (get_or logarithms x 0) 0) suc power-tested
+pub power_logarithm : (x : ℕ) → x < 255 → get_or powers (get_or logarithms x 0) 0 ≡ suc x
+power_logarithm = same_at 255 (λ x. get_or powers (get_or logarithms x 0) 0) suc power_tested
 
-below-tested : T (all 255 (λ x. ltb (get_or logarithms x 0) 255))
+below_tested : T (all 255 (λ x. ltb (get_or logarithms x 0) 255))
 unfolding logarithms
-below-tested = tt
+below_tested = tt
 
-pub logarithm-below : (x : ℕ) → x < 255 → get_or logarithms x 0 < 255
-logarithm-below x h = ltb→lt (get_or logarithms x 0) 255 (all-at 255 (λ x. ltb (get_or logarithms x 0) 255) below-tested x h)
+pub logarithm_below : (x : ℕ) → x < 255 → get_or logarithms x 0 < 255
+logarithm_below x h = ltb→lt (get_or logarithms x 0) 255 (all_at 255 (λ x. ltb (get_or logarithms x 0) 255) below_tested x h)

@@ -21,21 +21,21 @@ digit (suc (suc n)) h = absurd (omega arith)
 pub parity : (n : ℕ) → Digit (n % 2)
 parity n = digit (n % 2) (mod-lt n (zero-lt-suc 1))
 
-differ-assoc : {a b c : ℕ} → Digit a → Digit b → Digit c → differ (differ a b) c ≡ differ a (differ b c)
-differ-assoc off p q = refl
-differ-assoc on off q = refl
-differ-assoc on on off = refl
-differ-assoc on on on = refl
+differ_assoc : {a b c : ℕ} → Digit a → Digit b → Digit c → differ (differ a b) c ≡ differ a (differ b c)
+differ_assoc off p q = refl
+differ_assoc on off q = refl
+differ_assoc on on off = refl
+differ_assoc on on on = refl
 
 -- the lowest digit of a sum, and the rest
-pub xor-odd : (a b : ℕ) → bit_xor a b % 2 ≡ differ (a % 2) (b % 2)
-xor-odd a b = ap (λ (n : ℕ). n % 2) (xor_step a b) ∙ digits_mod (bit_xor (a / 2) (b / 2)) (differ-lt (parity a) (parity b))
+pub xor_odd : (a b : ℕ) → bit_xor a b % 2 ≡ differ (a % 2) (b % 2)
+xor_odd a b = ap (λ (n : ℕ). n % 2) (xor_step a b) ∙ digits_mod (bit_xor (a / 2) (b / 2)) (differ_lt (parity a) (parity b))
   where
-    differ-lt : {a b : ℕ} → Digit a → Digit b → differ a b < 2
-    differ-lt off off = omega arith
-    differ-lt off on = omega arith
-    differ-lt on off = omega arith
-    differ-lt on on = omega arith
+    differ_lt : {a b : ℕ} → Digit a → Digit b → differ a b < 2
+    differ_lt off off = omega arith
+    differ_lt off on = omega arith
+    differ_lt on off = omega arith
+    differ_lt on on = omega arith
 
 pub xor_assoc : (a b c : ℕ) → bit_xor (bit_xor a b) c ≡ bit_xor a (bit_xor b c)
 xor_assoc =
@@ -44,22 +44,22 @@ xor_assoc =
     xor_step (bit_xor a b) c
     ∙ ap₂ (λ (x y : ℕ). x * 2 + y)
     (ap (λ (n : ℕ). bit_xor n (c / 2)) (xor_shr a b 1) ∙ ih (b / 2) (c / 2) ∙ sym (ap (bit_xor (a / 2)) (xor_shr b c 1)))
-    (ap (λ (n : ℕ). differ n (c % 2)) (xor-odd a b)
-    ∙ differ-assoc (parity a) (parity b) (parity c)
-    ∙ sym (ap (differ (a % 2)) (xor-odd b c)))
+    (ap (λ (n : ℕ). differ n (c % 2)) (xor_odd a b)
+    ∙ differ_assoc (parity a) (parity b) (parity c)
+    ∙ sym (ap (differ (a % 2)) (xor_odd b c)))
     ∙ sym (xor_step a (bit_xor b c)))
 
-xor-left-comm : (a b c : ℕ) → bit_xor a (bit_xor b c) ≡ bit_xor b (bit_xor a c)
-xor-left-comm a b c = sym (xor_assoc a b c) ∙ ap (λ (n : ℕ). bit_xor n c) (xor_comm a b) ∙ xor_assoc b a c
+xor_left_comm : (a b c : ℕ) → bit_xor a (bit_xor b c) ≡ bit_xor b (bit_xor a c)
+xor_left_comm a b c = sym (xor_assoc a b c) ∙ ap (λ (n : ℕ). bit_xor n c) (xor_comm a b) ∙ xor_assoc b a c
 
 -- the four terms of two sums, exchanged
-pub xor-exchange : (a b c d : ℕ) → bit_xor (bit_xor a b) (bit_xor c d) ≡ bit_xor (bit_xor a c) (bit_xor b d)
-xor-exchange a b c d = simp (xor_assoc, xor-left-comm)
+pub xor_exchange : (a b c d : ℕ) → bit_xor (bit_xor a b) (bit_xor c d) ≡ bit_xor (bit_xor a c) (bit_xor b d)
+xor_exchange a b c d = simp (xor_assoc, xor_left_comm)
 
 -- a term on both sides cancels
-pub xor-cancel : (a b : ℕ) → bit_xor a (bit_xor a b) ≡ b
-xor-cancel a b = sym (xor_assoc a a b) ∙ ap (λ (n : ℕ). bit_xor n b) (xor_self a) ∙ xor_zero_l b
+pub xor_cancel : (a b : ℕ) → bit_xor a (bit_xor a b) ≡ b
+xor_cancel a b = sym (xor_assoc a a b) ∙ ap (λ (n : ℕ). bit_xor n b) (xor_self a) ∙ xor_zero_l b
 
 -- two numbers whose sum is zero are equal
-pub xor-zero : (a b : ℕ) → bit_xor a b ≡ 0 → a ≡ b
-xor-zero a b h = sym (xor_zero_r a) ∙ ap (bit_xor a) (sym h) ∙ xor-cancel a b
+pub xor_zero : (a b : ℕ) → bit_xor a b ≡ 0 → a ≡ b
+xor_zero a b h = sym (xor_zero_r a) ∙ ap (bit_xor a) (sym h) ∙ xor_cancel a b

@@ -55,7 +55,7 @@ unfoldable pub power : ℕ → ℕ → ℕ
 power x zero = 1
 power x (suc e) = product x (power x e)
 
--- Division. An element other than 00 times its 254th power is 01 (`product-inverse`), so that power is B^-1, and A/B is A·B^-1. The last
+-- Division. An element other than 00 times its 254th power is 01 (`product_inverse`), so that power is B^-1, and A/B is A·B^-1. The last
 -- argument says that B is not 00: without it nothing is divided.
 abbrev pub reciprocal : (b : ℕ) → b ≢ 0 → ℕ
 reciprocal b other = power b 254
@@ -69,14 +69,14 @@ inverse zero = NoInverse
 inverse (suc x) = InverseIs (element (reciprocal (suc x) (suc-ne-zero x)))
 
 -- the first of the k exponents from e on whose power of 02 is x, else none
-unfoldable pub firstExponent : ℕ → ℕ → ℕ → Logarithm
-firstExponent x e zero = NoLogarithm
-firstExponent x e (suc k) = elim (eqb (power 2 e) x) [ true ↦ LogarithmIs e | false ↦ firstExponent x (suc e) k ]
+unfoldable pub first_exponent : ℕ → ℕ → ℕ → Logarithm
+first_exponent x e zero = NoLogarithm
+first_exponent x e (suc k) = elim (eqb (power 2 e) x) [ true ↦ LogarithmIs e | false ↦ first_exponent x (suc e) k ]
 
 -- The logarithm to base 02 that an element answers: the first exponent below 255 whose power of 02 it is. No power of 02 is 00
--- (`power-of-two-nonzero`), so none for 00.
+-- (`power_of_two_nonzero`), so none for 00.
 unfoldable pub logarithm : ℕ → Logarithm
-logarithm x = firstExponent x 0 255
+logarithm x = first_exponent x 0 255
 
 -- what a private function of the code finds in its table: the exponent e of the power of 02 that x is
 pub record ExponentOf (x e : ℕ) : Type 0 where

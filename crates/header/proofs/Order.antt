@@ -7,49 +7,49 @@ use Prim.Native.Nat.{ℕ, ◌≤◌}
 use borrow.Author.Tests.{ltb-false}
 use lib.ListN.{length}
 use Rattle.base.specs.Refusal.{Refusal, first_of}
-use Rattle.base.proofs.Refused.{none-applies}
+use Rattle.base.proofs.Refused.{none_applies}
 use Rattle.shape.specs.declared.Geometry.{Geometry}
 use Rattle.devices.specs.declared.Named.{Named}
 use Rattle.devices.specs.declared.Named.TheVariants.{Device, Nothing, Meaningless}
-use Rattle.shape.specs.Refusals.{library, limitsRefusals, refusal3}
-use Rattle.devices.specs.Codes.{named_by, lossOf, namedTwice, noDevices}
+use Rattle.shape.specs.Refusals.{library, limits_refusals, refusal3}
+use Rattle.devices.specs.Codes.{named_by, loss_of, named_twice, no_devices}
 use Rattle.header.specs.Fields.{field}
-use Rattle.header.specs.Header.{commandOf, geometryOf, firstDevice, secondDevice, stripeOf}
+use Rattle.header.specs.Header.{command_of, geometry_of, first_device, second_device, stripe_of}
 use Rattle.header.specs.Refusals.{refusal4, refusal5, refusal9, refusal20}
-use Rattle.header.specs.Steps.{headerRefusals, stripeRefusals}
+use Rattle.header.specs.Steps.{header_refusals, stripe_refusals}
 
-abbrev pub limitsOf : List ℕ → List Refusal
-limitsOf job = limitsRefusals library (geometryOf job)
+abbrev pub limits_of : List ℕ → List Refusal
+limits_of job = limits_refusals library (geometry_of job)
 
 -- from 3 on, with the stripe beside the job
 abbrev pub from3 : List ℕ → List ℕ → List Refusal
 from3 job s =
-    refusal3 (geometryOf job) (length s)
-    ∷ refusal4 (geometryOf job) (commandOf job) (firstDevice job) (secondDevice job)
-    ∷ refusal5 (firstDevice job) (secondDevice job)
-    ∷ refusal9 (geometryOf job) (commandOf job) s
+    refusal3 (geometry_of job) (length s)
+    ∷ refusal4 (geometry_of job) (command_of job) (first_device job) (second_device job)
+    ∷ refusal5 (first_device job) (second_device job)
+    ∷ refusal9 (geometry_of job) (command_of job) s
     ∷ []
 
 abbrev pub rest_of : List ℕ → List Refusal
-rest_of job = from3 job (stripeOf job)
+rest_of job = from3 job (stripe_of job)
 
 -- from 20 on, and all that follows the header
 abbrev pub from20 : List ℕ → List Refusal
-from20 job = refusal20 (geometryOf job) ∷ rest_of job
+from20 job = refusal20 (geometry_of job) ∷ rest_of job
 
-abbrev pub behindHeader : List ℕ → List Refusal
-behindHeader job = limitsOf job ++ from20 job
+abbrev pub behind_header : List ℕ → List Refusal
+behind_header job = limits_of job ++ from20 job
 
-pub header-long : (job : List ℕ) → first_of (headerRefusals job) ≡ 0 → 14 ≤ length job
-header-long job e = ltb-false (length job) 14 (none-applies (headerRefusals job) refl e).0
+pub header_long : (job : List ℕ) → first_of (header_refusals job) ≡ 0 → 14 ≤ length job
+header_long job e = ltb-false (length job) 14 (none_applies (header_refusals job) refl e).0
 
 -- codes of none name no device twice
-pub none-twice : (a b : Named) → noDevices a b ≡ true → namedTwice (lossOf a b) ≡ false
-none-twice (Device d) b e = absurd (false≢true e)
-none-twice Nothing b e = refl
-none-twice Meaningless b e = refl
+pub none_twice : (a b : Named) → no_devices a b ≡ true → named_twice (loss_of a b) ≡ false
+none_twice (Device d) b e = absurd (false≢true e)
+none_twice Nothing b e = refl
+none_twice Meaningless b e = refl
 
 -- what the stripe's refusals give, by what was read of the job
-pub stripe-as : (job : List ℕ) {g : Geometry} {first second : ℕ} {s : List ℕ} → g ≡ geometryOf job → first ≡ field job 10 → second ≡ field job 12 → s ≡ stripeOf job
-    → first_of (stripeRefusals g (commandOf job) (named_by first) (named_by second) s) ≡ first_of (limitsOf job ++ rest_of job)
-stripe-as job is-g is-first is-second is-s = rw (is-g, is-first, is-second, is-s)
+pub stripe_as : (job : List ℕ) {g : Geometry} {first second : ℕ} {s : List ℕ} → g ≡ geometry_of job → first ≡ field job 10 → second ≡ field job 12 → s ≡ stripe_of job
+    → first_of (stripe_refusals g (command_of job) (named_by first) (named_by second) s) ≡ first_of (limits_of job ++ rest_of job)
+stripe_as job is_g is_first is_second is_s = rw (is_g, is_first, is_second, is_s)

@@ -11,9 +11,9 @@ pub record FieldRead (bytes : List ℕ) (at r : ℕ) : Type 0 where
   pub small : r < 65536
 
 -- the two bytes of a number, and those of several numbers one after the other
-abbrev pub bigEndian : ℕ → List ℕ
-bigEndian v = v / 256 ∷ v % 256 ∷ []
+abbrev pub big_endian : ℕ → List ℕ
+big_endian v = v / 256 ∷ v % 256 ∷ []
 
 unfoldable pub fields : List ℕ → List ℕ
 fields [] = []
-fields (v ∷ vs) = bigEndian v ++ fields vs
+fields (v ∷ vs) = big_endian v ++ fields vs

@@ -3,10 +3,10 @@
 ghost use Rattle.std.specs.Prelude.{◌≡◌};
 ghost use Rattle.devices.specs.Codes.{named_by};
 ghost use Rattle.base.specs.Refusal.{first_of};
-ghost use Rattle.header.specs.Fields.{FieldRead, bigEndian};
-ghost use Rattle.header.specs.Header.{geometryOf};
-ghost use Rattle.header.specs.Refusals.{jobRefusal};
-ghost use Rattle.header.specs.Steps.{headerRefusals, callRefusals, stripeRefusals};
+ghost use Rattle.header.specs.Fields.{FieldRead, big_endian};
+ghost use Rattle.header.specs.Header.{geometry_of};
+ghost use Rattle.header.specs.Refusals.{job_refusal};
+ghost use Rattle.header.specs.Steps.{header_refusals, call_refusals, stripe_refusals};
 
 use shape::Geometry;
 
@@ -16,7 +16,7 @@ pub const LIMIT: usize = 61440;
 // ---- the refusals in their order; 0 where none applies
 
 pub fn refusal(job: &[u8]) -> u8
-    ensures { result ≡ jobRefusal job.now }
+    ensures { result ≡ job_refusal job.now }
 {
     let refused = header_refusal(job);
     if refused != 0 {
@@ -35,7 +35,7 @@ pub fn refusal(job: &[u8]) -> u8
 
 // 16 to 19.
 fn header_refusal(job: &[u8]) -> u8
-    ensures { result ≡ first_of (headerRefusals job.now) }
+    ensures { result ≡ first_of (header_refusals job.now) }
 {
     if job.len() < 14 {
         return 16;
@@ -64,7 +64,7 @@ fn header_refusal(job: &[u8]) -> u8
 
 // 1 to 5, as the command's call has them, and then 9 of a repair, which alone reads the stripe's bytes.
 fn stripe_refusal(g: Geometry, command: u8, first: usize, second: usize, stripe: &[u8]) -> u8
-    ensures { result ≡ first_of (stripeRefusals g command (named_by first) (named_by second) stripe.now) }
+    ensures { result ≡ first_of (stripe_refusals g command (named_by first) (named_by second) stripe.now) }
 {
     let refused = call_refusal(g, stripe.len(), command, first, second);
     if refused != 0 {
@@ -78,7 +78,7 @@ fn stripe_refusal(g: Geometry, command: u8, first: usize, second: usize, stripe:
 
 // 1 to 5. A rebuild alone wants devices.
 fn call_refusal(g: Geometry, len: usize, command: u8, first: usize, second: usize) -> u8
-    ensures { result ≡ first_of (callRefusals g len command (named_by first) (named_by second)) }
+    ensures { result ≡ first_of (call_refusals g len command (named_by first) (named_by second)) }
 {
     if command == 2 {
         return devices::named_refusal(g, len, first, second);
@@ -97,13 +97,13 @@ fn call_refusal(g: Geometry, len: usize, command: u8, first: usize, second: usiz
 // ---- 16-bit fields, high byte first
 
 pub fn big_endian(value: u16) -> [u8; 2]
-    ensures { result ≡ bigEndian value }
+    ensures { result ≡ big_endian value }
 {
     [(value / 256) as u8, (value % 256) as u8]
 }
 
 pub fn geometry(job: &[u8]) -> Geometry
-    ensures { result ≡ geometryOf job.now }
+    ensures { result ≡ geometry_of job.now }
 {
     Geometry {
         n: field(job, 6),

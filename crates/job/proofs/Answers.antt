@@ -13,60 +13,60 @@ use Rattle.devices.specs.declared.Naming.TheVariants.{Loss, Wrong}
 use Rattle.compare.specs.Compare.{verdicts}
 use Rattle.stripe.specs.Stripe.{encoded, rebuilt, repaired}
 use Rattle.verdict.specs.Summary.{summary}
-use Rattle.base.specs.Refusal.{unlessRefused}
+use Rattle.base.specs.Refusal.{unless_refused}
 use Rattle.base.proofs.Refused.{left_alone}
-use Rattle.header.specs.Fields.{bigEndian, fields}
-use Rattle.header.specs.Header.{mark, commandOf, geometryOf, lossNamed, stripeOf}
+use Rattle.header.specs.Fields.{big_endian, fields}
+use Rattle.header.specs.Header.{mark, command_of, geometry_of, loss_named, stripe_of}
 use Rattle.devices.specs.Codes.{misnamed}
-use Rattle.header.specs.Refusals.{jobRefusal}
-use Rattle.job.specs.Answer.{opening, restored, body, answerTo}
+use Rattle.header.specs.Refusals.{job_refusal}
+use Rattle.job.specs.Answer.{opening, restored, body, answer_to}
 use Rattle.header.proofs.Accepted.{accepted}
-use Rattle.job.proofs.Bodies.{body-encode, body-rebuild, body-check, body-repair}
+use Rattle.job.proofs.Bodies.{body_encode, body_rebuild, body_check, body_repair}
 
 -- a refused job gets the six bytes alone
-pub answer-refused : (job : List ℕ) → jobRefusal job ≢ 0 → answerTo job ≡ opening (jobRefusal job)
-unfolding answerTo
-answer-refused job n = ap (λ (l : List ℕ). opening (jobRefusal job) ++ l) (left_alone (jobRefusal job) (body job) [] n)
+pub answer_refused : (job : List ℕ) → job_refusal job ≢ 0 → answer_to job ≡ opening (job_refusal job)
+unfolding answer_to
+answer_refused job n = ap (λ (l : List ℕ). opening (job_refusal job) ++ l) (left_alone (job_refusal job) (body job) [] n)
 
-pub answer-accepted : (job : List ℕ) → jobRefusal job ≡ 0 → answerTo job ≡ opening 0 ++ body job
-unfolding answerTo
-answer-accepted job e = ap (λ (k : ℕ). opening k ++ unlessRefused k (body job) []) e
+pub answer_accepted : (job : List ℕ) → job_refusal job ≡ 0 → answer_to job ≡ opening 0 ++ body job
+unfolding answer_to
+answer_accepted job e = ap (λ (k : ℕ). opening k ++ unless_refused k (body job) []) e
 
 -- ---- what an accepted job gets, by its command
-module _ (job : List ℕ) (e : jobRefusal job ≡ 0) where
-  pub answer-encode : commandOf job ≡ 1 → answerTo job ≡ opening 0 ++ encoded (geometryOf job) (stripeOf job)
-  answer-encode is = answer-accepted job e ∙ ap (λ (l : List ℕ). opening 0 ++ l) (body-encode job is)
+module _ (job : List ℕ) (e : job_refusal job ≡ 0) where
+  pub answer_encode : command_of job ≡ 1 → answer_to job ≡ opening 0 ++ encoded (geometry_of job) (stripe_of job)
+  answer_encode is = answer_accepted job e ∙ ap (λ (l : List ℕ). opening 0 ++ l) (body_encode job is)
 
   -- the codes of an accepted rebuild name a loss
-  pub rebuild-loss : commandOf job ≡ 2 → (lost : Lost) × (lossNamed job ≡ Loss lost)
-  rebuild-loss is = go (lossNamed job) (rw is at (accepted job e).named)
+  pub rebuild_loss : command_of job ≡ 2 → (lost : Lost) × (loss_named job ≡ Loss lost)
+  rebuild_loss is = go (loss_named job) (rw is at (accepted job e).named)
     where
-      go : (loss : Naming) → misnamed (geometryOf job) loss ≡ false → (lost : Lost) × (loss ≡ Loss lost)
+      go : (loss : Naming) → misnamed (geometry_of job) loss ≡ false → (lost : Lost) × (loss ≡ Loss lost)
       go (Loss lost) m = (lost, refl)
       go Wrong m = absurd (true≢false m)
 
-  pub answer-rebuild : commandOf job ≡ 2 → (lost : Lost) → lossNamed job ≡ Loss lost
-      → answerTo job ≡ opening 0 ++ rebuilt (geometryOf job) lost (stripeOf job)
-  answer-rebuild is lost named =
-      answer-accepted job e
-      ∙ ap (λ (l : List ℕ). opening 0 ++ l) (body-rebuild job is ∙ ap (λ (loss : Naming). restored (geometryOf job) loss (stripeOf job)) named)
+  pub answer_rebuild : command_of job ≡ 2 → (lost : Lost) → loss_named job ≡ Loss lost
+      → answer_to job ≡ opening 0 ++ rebuilt (geometry_of job) lost (stripe_of job)
+  answer_rebuild is lost named =
+      answer_accepted job e
+      ∙ ap (λ (l : List ℕ). opening 0 ++ l) (body_rebuild job is ∙ ap (λ (loss : Naming). restored (geometry_of job) loss (stripe_of job)) named)
 
-  pub answer-check : commandOf job ≡ 3
-      → answerTo job
-      ≡ opening 0 ++ fields (summary (verdicts (geometryOf job) (stripeOf job)) ∷ verdicts (geometryOf job) (stripeOf job))
-  answer-check is = answer-accepted job e ∙ ap (λ (l : List ℕ). opening 0 ++ l) (body-check job is)
+  pub answer_check : command_of job ≡ 3
+      → answer_to job
+      ≡ opening 0 ++ fields (summary (verdicts (geometry_of job) (stripe_of job)) ∷ verdicts (geometry_of job) (stripe_of job))
+  answer_check is = answer_accepted job e ∙ ap (λ (l : List ℕ). opening 0 ++ l) (body_check job is)
 
-  pub answer-repair : commandOf job ≡ 4 → answerTo job ≡ opening 0 ++ repaired (geometryOf job) (stripeOf job)
-  answer-repair is = answer-accepted job e ∙ ap (λ (l : List ℕ). opening 0 ++ l) (body-repair job is)
+  pub answer_repair : command_of job ≡ 4 → answer_to job ≡ opening 0 ++ repaired (geometry_of job) (stripe_of job)
+  answer_repair is = answer_accepted job e ∙ ap (λ (l : List ℕ). opening 0 ++ l) (body_repair job is)
 
-  pub length-accepted : length (answerTo job) ≡ 6 + length (body job)
-  length-accepted = ap length (answer-accepted job e) ∙ omega arith
+  pub length_accepted : length (answer_to job) ≡ 6 + length (body job)
+  length_accepted = ap length (answer_accepted job e) ∙ omega arith
 
 -- ---- every answer
-pub answer-opens : (job : List ℕ) → take 5 (answerTo job) ≡ mark ++ bigEndian 1
-unfolding answerTo
-answer-opens job = refl
+pub answer_opens : (job : List ℕ) → take 5 (answer_to job) ≡ mark ++ big_endian 1
+unfolding answer_to
+answer_opens job = refl
 
-pub answer-least : (job : List ℕ) → 6 ≤ length (answerTo job)
-unfolding answerTo
-answer-least job = omega arith
+pub answer_least : (job : List ℕ) → 6 ≤ length (answer_to job)
+unfolding answer_to
+answer_least job = omega arith

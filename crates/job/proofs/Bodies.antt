@@ -11,85 +11,85 @@ use Rattle.column.specs.declared.Lost.{Lost}
 use Rattle.shape.specs.declared.Geometry.{Geometry}
 use Rattle.devices.specs.declared.Naming.{Naming}
 use Rattle.devices.specs.declared.Naming.TheVariants.{Loss, Wrong}
-use Rattle.column.specs.Column.{reedSolomon, encodeColumn, rebuildColumn}
+use Rattle.column.specs.Column.{reed_solomon, encode_column, rebuild_column}
 use Rattle.compare.specs.Compare.{verdicts}
 use Rattle.stripe.specs.Stripe.{encoded, rebuilt, repaired}
-use Rattle.shape.specs.Refusals.{library, shapeRefusals, encodeRefusal}
-use Rattle.devices.specs.Refusals.{unknownLost, twice, lossRefusals, rebuildRefusal}
-use Rattle.stripe.specs.Calls.{afterEncode, afterRebuild, rebuiltBy, afterRepair}
-use Rattle.compare.specs.Repair.{refusal9, repairRefusal}
-use Rattle.stripe.proofs.Repairs.{repaired-long}
-use Rattle.shape.proofs.Places.{length-lift}
-use Rattle.base.proofs.Refused.{first-passed, left-done}
-use Rattle.header.specs.Header.{commandOf, geometryOf, lossNamed, stripeOf}
-use Rattle.devices.specs.Codes.{misnamed, namedTwice}
+use Rattle.shape.specs.Refusals.{library, shape_refusals, encode_refusal}
+use Rattle.devices.specs.Refusals.{unknown_lost, twice, loss_refusals, rebuild_refusal}
+use Rattle.stripe.specs.Calls.{after_encode, after_rebuild, rebuilt_by, after_repair}
+use Rattle.compare.specs.Repair.{refusal9, repair_refusal}
+use Rattle.stripe.proofs.Repairs.{repaired_long}
+use Rattle.shape.proofs.Places.{length_lift}
+use Rattle.base.proofs.Refused.{first_passed, left_done}
+use Rattle.header.specs.Header.{command_of, geometry_of, loss_named, stripe_of}
+use Rattle.devices.specs.Codes.{misnamed, named_twice}
 use Rattle.report.specs.Report.{report}
 use Rattle.job.specs.Answer.{restored, body}
 use Rattle.header.proofs.Accepted.{Accepted}
-use Rattle.report.proofs.Laws.{length-report}
+use Rattle.report.proofs.Laws.{length_report}
 
-length-restored : (g : Geometry) (loss : Naming) (s : List ℕ) → length (restored g loss s) ≡ length s
-length-restored g (Loss lost) s = length-lift g (λ i c. rebuildColumn reedSolomon g.n lost c) s
-length-restored g Wrong s = refl
+length_restored : (g : Geometry) (loss : Naming) (s : List ℕ) → length (restored g loss s) ≡ length s
+length_restored g (Loss lost) s = length_lift g (λ i c. rebuild_column reed_solomon g.n lost c) s
+length_restored g Wrong s = refl
 
 module _ (job : List ℕ) where
   abbrev g : Geometry
-  g = geometryOf job
+  g = geometry_of job
 
   abbrev s : List ℕ
-  s = stripeOf job
+  s = stripe_of job
 
-  pub body-encode : commandOf job ≡ 1 → body job ≡ encoded g s
+  pub body_encode : command_of job ≡ 1 → body job ≡ encoded g s
   unfolding body
-  body-encode e = rw e
+  body_encode e = rw e
 
-  pub body-rebuild : commandOf job ≡ 2 → body job ≡ restored g (lossNamed job) s
+  pub body_rebuild : command_of job ≡ 2 → body job ≡ restored g (loss_named job) s
   unfolding body
-  body-rebuild e = rw e
+  body_rebuild e = rw e
 
-  pub body-check : commandOf job ≡ 3 → body job ≡ report (verdicts g s)
+  pub body_check : command_of job ≡ 3 → body job ≡ report (verdicts g s)
   unfolding body
-  body-check e = rw e
+  body_check e = rw e
 
-  pub body-repair : commandOf job ≡ 4 → body job ≡ repaired g s
+  pub body_repair : command_of job ≡ 4 → body job ≡ repaired g s
   unfolding body
-  body-repair e = rw e
+  body_repair e = rw e
 
-  pub length-check : commandOf job ≡ 3 → length (body job) ≡ 2 + 2 * g.b
-  length-check e = ap length (body-check e) ∙ length-report g s
+  pub length_check : command_of job ≡ 3 → length (body job) ≡ 2 + 2 * g.b
+  length_check e = ap length (body_check e) ∙ length_report g s
 
   module _ (ok : Accepted job) where
-    pub other : (commandOf job ≡ 1 → ⊥) → (commandOf job ≡ 2 → ⊥) → (commandOf job ≡ 3 → ⊥) → commandOf job ≡ 4
+    pub other : (command_of job ≡ 1 → ⊥) → (command_of job ≡ 2 → ⊥) → (command_of job ≡ 3 → ⊥) → command_of job ≡ 4
     other p q h = omega arith
 
     -- a command other than check
-    pub length-stripe : (commandOf job ≡ 3 → ⊥) → length (body job) ≡ length s
-    length-stripe h = go (ℕ_discrete (commandOf job) 1) (ℕ_discrete (commandOf job) 2)
+    pub length_stripe : (command_of job ≡ 3 → ⊥) → length (body job) ≡ length s
+    length_stripe h = go (ℕ_discrete (command_of job) 1) (ℕ_discrete (command_of job) 2)
       where
-        go : Dec (commandOf job ≡ 1) → Dec (commandOf job ≡ 2) → length (body job) ≡ length s
-        go (yes e) d = ap length (body-encode e) ∙ length-lift g (λ i c. encodeColumn reedSolomon g.n c) s
-        go (no p) (yes e) = ap length (body-rebuild e) ∙ length-restored g (lossNamed job) s
-        go (no p) (no q) = ap length (body-repair (other p q h)) ∙ repaired-long g s
+        go : Dec (command_of job ≡ 1) → Dec (command_of job ≡ 2) → length (body job) ≡ length s
+        go (yes e) d = ap length (body_encode e) ∙ length_lift g (λ i c. encode_column reed_solomon g.n c) s
+        go (no p) (yes e) = ap length (body_rebuild e) ∙ length_restored g (loss_named job) s
+        go (no p) (no q) = ap length (body_repair (other p q h)) ∙ repaired_long g s
 
     -- what the calls leave is the body
-    pub encode-done : commandOf job ≡ 1 → afterEncode g s ≡ body job
-    unfolding afterEncode
-    encode-done e = left-done (encodeRefusal g (length s)) (encoded g s) s ok.shape ∙ sym (body-encode e)
+    pub encode_done : command_of job ≡ 1 → after_encode g s ≡ body job
+    unfolding after_encode
+    encode_done e = left_done (encode_refusal g (length s)) (encoded g s) s ok.shape ∙ sym (body_encode e)
 
-    pub loss-accepted : (lost : Lost) → unknownLost g lost ≡ false → twice lost ≡ false → rebuildRefusal g (length s) lost ≡ 0
-    loss-accepted lost m t = first-passed (shapeRefusals library g (length s)) (lossRefusals g lost) refl ok.shape ∙ simp (m, t)
+    pub loss_accepted : (lost : Lost) → unknown_lost g lost ≡ false → twice lost ≡ false → rebuild_refusal g (length s) lost ≡ 0
+    loss_accepted lost m t = first_passed (shape_refusals library g (length s)) (loss_refusals g lost) refl ok.shape ∙ simp (m, t)
 
-    pub rebuild-done : commandOf job ≡ 2 → rebuiltBy g (lossNamed job) s ≡ body job
-    unfolding afterRebuild
-    rebuild-done e = go (lossNamed job) (rw e at ok.named) ok.apart ∙ sym (body-rebuild e)
+    pub rebuild_done : command_of job ≡ 2 → rebuilt_by g (loss_named job) s ≡ body job
+    unfolding after_rebuild
+    rebuild_done e = go (loss_named job) (rw e at ok.named) ok.apart ∙ sym (body_rebuild e)
       where
-        go : (loss : Naming) → misnamed g loss ≡ false → namedTwice loss ≡ false → rebuiltBy g loss s ≡ restored g loss s
+        go : (loss : Naming) → misnamed g loss ≡ false → named_twice loss ≡ false → rebuilt_by g loss s ≡ restored g loss s
         go (Loss lost) m t =
-            left-done (rebuildRefusal g (length s) lost) (rebuilt g lost s) s (loss-accepted lost m t)
+            left_done (rebuild_refusal g (length s) lost) (rebuilt g lost s) s (loss_accepted lost m t)
         go Wrong m t = refl
 
-    pub repair-done : commandOf job ≡ 4 → afterRepair g s ≡ body job
-    unfolding afterRepair
-    repair-done e =
-        left-done (repairRefusal g s) (repaired g s) s (first-passed (shapeRefusals library g (length s)) (refusal9 g s ∷ []) refl ok.shape ∙ simp (rw e at ok.clear))
-        ∙ sym (body-repair e)
+    pub repair_done : command_of job ≡ 4 → after_repair g s ≡ body job
+    unfolding after_repair
+    repair_done e =
+        left_done (repair_refusal g s) (repaired g s) s (first_passed (shape_refusals library g (length s)) (refusal9 g s ∷ []) refl ok.shape ∙ simp (rw e at ok.clear))
+        ∙ sym (body_repair e)

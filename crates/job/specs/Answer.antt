@@ -7,15 +7,15 @@ use Rattle.devices.specs.declared.Naming.TheVariants.{Loss, Wrong}
 use Rattle.base.specs.Choice.{choose}
 use Rattle.compare.specs.Compare.{verdicts}
 use Rattle.stripe.specs.Stripe.{encoded, rebuilt, repaired}
-use Rattle.base.specs.Refusal.{unlessRefused}
-use Rattle.header.specs.Fields.{bigEndian}
-use Rattle.header.specs.Header.{mark, commandOf, geometryOf, lossNamed, stripeOf}
-use Rattle.header.specs.Refusals.{jobRefusal}
+use Rattle.base.specs.Refusal.{unless_refused}
+use Rattle.header.specs.Fields.{big_endian}
+use Rattle.header.specs.Header.{mark, command_of, geometry_of, loss_named, stripe_of}
+use Rattle.header.specs.Refusals.{job_refusal}
 use Rattle.report.specs.Report.{report}
 
 -- the six bytes of every answer
 abbrev pub opening : ℕ → List ℕ
-opening result = mark ++ (bigEndian 1 ++ (result ∷ []))
+opening result = mark ++ (big_endian 1 ++ (result ∷ []))
 
 -- a rebuilt stripe; codes that name no loss are refused before it
 abbrev pub restored : Geometry → Naming → List ℕ → List ℕ
@@ -29,14 +29,14 @@ outcome command g loss s =
     (choose (eqb command 2) (restored g loss s) (choose (eqb command 3) (report (verdicts g s)) (repaired g s)))
 
 unfoldable pub body : List ℕ → List ℕ
-body job = outcome (commandOf job) (geometryOf job) (lossNamed job) (stripeOf job)
+body job = outcome (command_of job) (geometry_of job) (loss_named job) (stripe_of job)
 
-unfoldable pub answerTo : List ℕ → List ℕ
-answerTo job = opening (jobRefusal job) ++ unlessRefused (jobRefusal job) (body job) []
+unfoldable pub answer_to : List ℕ → List ℕ
+answer_to job = opening (job_refusal job) ++ unless_refused (job_refusal job) (body job) []
 
 -- The contract: the number of bytes answered and the final output. The answer stands at the output's start and the rest is left; an
 -- answer that the output has no room for is not written, and 0 is returned.
 pub record AnswerCall (job before : List ℕ) (r : ℕ) (after : List ℕ) : Type 0 where
-  pub count : r ≡ choose (leb (length (answerTo job)) (length before)) (length (answerTo job)) 0
+  pub count : r ≡ choose (leb (length (answer_to job)) (length before)) (length (answer_to job)) 0
   pub output :
-      after ≡ choose (leb (length (answerTo job)) (length before)) (answerTo job ++ drop (length (answerTo job)) before) before
+      after ≡ choose (leb (length (answer_to job)) (length before)) (answer_to job ++ drop (length (answer_to job)) before) before

@@ -1,11 +1,11 @@
 // One job: a header of 14 bytes and a stripe, answered by six bytes and, unless the job is refused,
 // the stripe after its encode, rebuild or repair, or what a check of it found.
 ghost use Rattle.std.specs.Prelude.{◌≡◌, ◌+◌, ◌*◌, ◌≤◌, length};
-ghost use Rattle.shape.specs.Refusals.{encodeRefusal};
+ghost use Rattle.shape.specs.Refusals.{encode_refusal};
 ghost use Rattle.compare.specs.Compare.{verdicts};
-ghost use Rattle.header.specs.Refusals.{mostColumns, jobRefusal};
+ghost use Rattle.header.specs.Refusals.{most_columns, job_refusal};
 ghost use Rattle.report.specs.Report.{report};
-ghost use Rattle.job.specs.Answer.{body, answerTo, AnswerCall};
+ghost use Rattle.job.specs.Answer.{body, answer_to, AnswerCall};
 
 use header::LIMIT;
 use shape::Geometry;
@@ -29,8 +29,8 @@ pub fn answer(job: &[u8], out: &mut [u8]) -> usize
 
 // The six bytes alone, or with a summary and B verdicts behind them, or with the stripe.
 fn answer_length(job: &[u8], refused: u8) -> usize
-    requires { refused ≡ jobRefusal job.now }
-    ensures { result ≡ length (answerTo job.now) }
+    requires { refused ≡ job_refusal job.now }
+    ensures { result ≡ length (answer_to job.now) }
 {
     if refused != 0 {
         return 6;
@@ -43,8 +43,8 @@ fn answer_length(job: &[u8], refused: u8) -> usize
 
 // Fills an output of the answer's length.
 fn respond(job: &[u8], res: u8, out: &mut [u8])
-    requires { (res ≡ jobRefusal job.now) × (length out.old ≡ length (answerTo job.now)) }
-    ensures { out.new ≡ answerTo job.now }
+    requires { (res ≡ job_refusal job.now) × (length out.old ≡ length (answer_to job.now)) }
+    ensures { out.new ≡ answer_to job.now }
 {
     let opening = [0x53, 0x52, 0x4a, 0, 1, res];
     bytes::copy(&opening, out);
@@ -56,7 +56,7 @@ fn respond(job: &[u8], res: u8, out: &mut [u8])
 
 // What follows the six bytes. The calls are not refused: the job's own tests passed.
 fn run(job: &[u8], out: &mut [u8])
-    requires { (jobRefusal job.now ≡ 0) × (length out.old ≡ length (body job.now)) }
+    requires { (job_refusal job.now ≡ 0) × (length out.old ≡ length (body job.now)) }
     ensures { out.new ≡ body job.now }
 {
     let g = header::geometry(job);
@@ -80,7 +80,7 @@ fn run(job: &[u8], out: &mut [u8])
 
 // Fills an output of the report's length with the report of a check.
 fn check(g: Geometry, stripe: &[u8], out: &mut [u8])
-    requires { (encodeRefusal g (length stripe.now) ≡ 0) × (g.b ≤ mostColumns) × (length out.old ≡ 2 + 2 * g.b) }
+    requires { (encode_refusal g (length stripe.now) ≡ 0) × (g.b ≤ most_columns) × (length out.old ≡ 2 + 2 * g.b) }
     ensures { out.new ≡ report (verdicts g stripe.now) }
 {
     let mut room = [0u16; ROOM];

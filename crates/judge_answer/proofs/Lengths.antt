@@ -5,10 +5,10 @@ use lib.ListN.{length}
 use Rattle.findings.specs.declared.Finding.TheVariants.{Fit, Singular, Pair}
 use Rattle.bitmatrix.specs.declared.Judgement.{Judgement}
 use Rattle.bitmatrix.specs.declared.Judgement.TheVariants.{Refused, Judged}
-use Rattle.judge_answer.specs.Answer.{answerBytes}
+use Rattle.judge_answer.specs.Answer.{answer_bytes}
 
-pub length-answer : (j : Judgement) → length (answerBytes j) ≡ 7
-length-answer (Refused n) = refl
-length-answer (Judged Fit n d) = refl
-length-answer (Judged (Singular i) n d) = refl
-length-answer (Judged (Pair i j) n d) = refl
+pub length_answer : (j : Judgement) → length (answer_bytes j) ≡ 7
+length_answer (Refused n) = refl
+length_answer (Judged Fit n d) = refl
+length_answer (Judged (Singular i) n d) = refl
+length_answer (Judged (Pair i j) n d) = refl

@@ -1,14 +1,14 @@
 // The bytes that answer a judgement of the judge of bit-matrix codes.
 ghost use Rattle.std.specs.Prelude.{◌≡◌};
 ghost use Rattle.base.specs.Choice.{choose};
-ghost use Rattle.judge_answer.specs.Answer.{answerBytes};
+ghost use Rattle.judge_answer.specs.Answer.{answer_bytes};
 
 use bitmatrix::Judgement;
 use findings::Finding;
 
 // The result number, the kind of finding (0 fit, 1 a matrix, 2 a pair), its places, the ones in two bytes, and whether they are minimal.
 pub fn answer(j: Judgement) -> [u8; 7]
-    ensures { result ≡ answerBytes j }
+    ensures { result ≡ answer_bytes j }
 {
     match j {
         Judgement::Refused(n) => [n, 0, 0, 0, 0, 0, 0],

@@ -5,8 +5,8 @@ use Rattle.matrix.specs.Matrix.{Matrix}
 use Rattle.findings.specs.Findings.{Code}
 
 -- the matrix whose eight rows stand at a place
-abbrev pub matrixAt : List ℕ → ℕ → Matrix
-matrixAt bytes at =
+abbrev pub matrix_at : List ℕ → ℕ → Matrix
+matrix_at bytes at =
     get_or bytes at 0
     ∷ get_or bytes (at + 1) 0
     ∷ get_or bytes (at + 2) 0
@@ -21,12 +21,12 @@ matrixAt bytes at =
 unfoldable pub code_at : List ℕ → ℕ → Code
 code_at bytes at =
     choose (ltb (length bytes) (at + 64)) (replicate 8 (replicate 8 0))
-    (matrixAt bytes at
-    ∷ matrixAt bytes (at + 8)
-    ∷ matrixAt bytes (at + 16)
-    ∷ matrixAt bytes (at + 24)
-    ∷ matrixAt bytes (at + 32)
-    ∷ matrixAt bytes (at + 40)
-    ∷ matrixAt bytes (at + 48)
-    ∷ matrixAt bytes (at + 56)
+    (matrix_at bytes at
+    ∷ matrix_at bytes (at + 8)
+    ∷ matrix_at bytes (at + 16)
+    ∷ matrix_at bytes (at + 24)
+    ∷ matrix_at bytes (at + 32)
+    ∷ matrix_at bytes (at + 40)
+    ∷ matrix_at bytes (at + 48)
+    ∷ matrix_at bytes (at + 56)
     ∷ [])

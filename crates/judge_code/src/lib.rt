@@ -1,6 +1,6 @@
 // Reads a code: eight matrices of eight row bytes, one after the other.
 ghost use Rattle.std.specs.Prelude.{◌≡◌, ◌+◌, ◌≤◌, length};
-ghost use Rattle.judge_code.specs.Code.{matrixAt, code_at};
+ghost use Rattle.judge_code.specs.Code.{matrix_at, code_at};
 
 // Where no whole code stands, one of 00.
 pub fn code_at(s: &[u8], at: usize) -> [[u8; 8]; 8]
@@ -26,7 +26,7 @@ pub fn code_at(s: &[u8], at: usize) -> [[u8; 8]; 8]
 
 fn matrix_at(s: &[u8], at: usize) -> [u8; 8]
     requires { at + 8 ≤ length s.now }
-    ensures { result ≡ matrixAt s.now at }
+    ensures { result ≡ matrix_at s.now at }
 {
     [
         s[at],

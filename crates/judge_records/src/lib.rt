@@ -2,7 +2,7 @@
 // record of seven bytes.
 ghost use Rattle.std.specs.Prelude.{◌≡◌, ◌+◌, ◌≤◌, min, length};
 ghost use Rattle.base.specs.Table.{spliced};
-ghost use Rattle.judge_records.specs.Records.{answerAt, JudgeAllCall};
+ghost use Rattle.judge_records.specs.Records.{answer_at, JudgeAllCall};
 
 // Puts the answers to the whole records, as many as have room, at the start of the output and returns their length.
 pub fn judge_all(codes: &[u8], out: &mut [u8]) -> usize
@@ -33,7 +33,7 @@ fn put(out: &mut [u8], at: usize, answer: [u8; 7])
 
 fn judge_at(codes: &[u8], at: usize) -> [u8; 7]
     requires { at + 65 ≤ length codes.now }
-    ensures { result ≡ answerAt codes.now at }
+    ensures { result ≡ answer_at codes.now at }
 {
     judge_answer::answer(bitmatrix::judge(judge_code::code_at(codes, at + 1), wide(codes[at])))
 }

@@ -7,15 +7,15 @@ use Rattle.serials.specs.Bytes.{bytes}
 use Rattle.lines.specs.Lines.{lines}
 
 -- no line stands after the last line feed
-pub no-further-line : lines (bytes "A\n") ≡ record { serial = bytes "A"; ended = true } ∷ []
+pub no_further_line : lines (bytes "A\n") ≡ record { serial = bytes "A"; ended = true } ∷ []
 unfolding lines
-no-further-line = refl
+no_further_line = refl
 
 -- what stands after it is a line that is not ended
-pub line-not-ended : lines (bytes "A\nB") ≡ record { serial = bytes "A"; ended = true } ∷ record { serial = bytes "B"; ended = false } ∷ []
+pub line_not_ended : lines (bytes "A\nB") ≡ record { serial = bytes "A"; ended = true } ∷ record { serial = bytes "B"; ended = false } ∷ []
 unfolding lines
-line-not-ended = refl
+line_not_ended = refl
 
-pub empty-lines : lines (bytes "\n\n") ≡ record { serial = []; ended = true } ∷ record { serial = []; ended = true } ∷ []
+pub empty_lines : lines (bytes "\n\n") ≡ record { serial = []; ended = true } ∷ record { serial = []; ended = true } ∷ []
 unfolding lines
-empty-lines = refl
+empty_lines = refl

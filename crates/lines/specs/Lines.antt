@@ -7,8 +7,8 @@ pub record Line : Type 0 where
   pub serial : List ℕ
   pub ended : Bool
 
-abbrev pub lineFeed : ℕ
-lineFeed = 10
+abbrev pub line_feed : ℕ
+line_feed = 10
 
 -- a byte in front of the first line; where there is no line, it is one by itself
 abbrev pub begun : ℕ → List Line → List Line
@@ -17,12 +17,12 @@ begun c (l ∷ ls) = record { serial = c ∷ l.serial; ended = l.ended } ∷ ls
 
 unfoldable pub lines : List ℕ → List Line
 lines [] = []
-lines (c ∷ t) = choose (eqb c lineFeed) (record { serial = []; ended = true } ∷ lines t) (begun c (lines t))
+lines (c ∷ t) = choose (eqb c line_feed) (record { serial = []; ended = true } ∷ lines t) (begun c (lines t))
 
 -- a digit or a capital letter: 0 to 9, or A to Z
-abbrev pub isCharacter : ℕ → Bool
-isCharacter c = either (both (leb 48 c) (leb c 57)) (both (leb 65 c) (leb c 90))
+abbrev pub is_character : ℕ → Bool
+is_character c = either (both (leb 48 c) (leb c 57)) (both (leb 65 c) (leb c 90))
 
-abbrev pub hasBad : List ℕ → Bool
-hasBad [] = false
-hasBad (c ∷ s) = either (not (isCharacter c)) (hasBad s)
+abbrev pub has_bad : List ℕ → Bool
+has_bad [] = false
+has_bad (c ∷ s) = either (not (is_character c)) (has_bad s)

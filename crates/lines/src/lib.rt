@@ -1,8 +1,8 @@
 // A line of a roster text, and what can be wrong with one.
 ghost use Rattle.std.specs.Prelude.{◌≡◌};
 ghost use Rattle.serials.specs.Serials.{serials};
-ghost use Rattle.lines.specs.Lines.{isCharacter, hasBad};
-ghost use Rattle.lines.specs.Faults.{judgedNumber, lineNumber};
+ghost use Rattle.lines.specs.Lines.{is_character, has_bad};
+ghost use Rattle.lines.specs.Faults.{judged_number, line_number};
 
 // The most lines: 255 data disks, P and Q.
 pub const MOST: usize = 257;
@@ -29,7 +29,7 @@ pub enum Judged {
 
 // The first test that a line fails. The serials of the lines before it are lent.
 pub fn judge(chars: &[u8], before: &[usize], serial: &[u8], ended: bool) -> Judged
-    ensures { judgedNumber result ≡ lineNumber (serials chars.now before.now) serial.now ended }
+    ensures { judged_number result ≡ line_number (serials chars.now before.now) serial.now ended }
 {
     if has_bad(serial) {
         return Judged::Faulty(Fault::BadCharacter);
@@ -53,7 +53,7 @@ pub fn judge(chars: &[u8], before: &[usize], serial: &[u8], ended: bool) -> Judg
 }
 
 fn has_bad(serial: &[u8]) -> bool
-    ensures { result ≡ hasBad serial.now }
+    ensures { result ≡ has_bad serial.now }
 {
     let mut i = 0;
     while i < serial.len() {
@@ -67,7 +67,7 @@ fn has_bad(serial: &[u8]) -> bool
 
 // A capital letter or a digit.
 pub fn is_character(c: u8) -> bool
-    ensures { result ≡ isCharacter c }
+    ensures { result ≡ is_character c }
 {
     if c < b'0' {
         return false;

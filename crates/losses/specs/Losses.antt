@@ -2,7 +2,7 @@
 -- alone are recomputed. Equations are numbered as in the paper.
 use Rattle.std.specs.Prelude.{ℕ, ◌+◌, ◌<◌, true, false, List, get_or}
 use Rattle.gf256.specs.Field.{sum, product}
-use Rattle.column.specs.Column.{Column, TwoBytes, put, total, parityQ, syndromeP, syndromeQ, encodeColumn, reedSolomon}
+use Rattle.column.specs.Column.{Column, TwoBytes, put, total, parity_q, syndrome_p, syndrome_q, encode_column, reed_solomon}
 use Rattle.chunk.specs.Chunk.{each}
 use Rattle.losses.specs.declared.Rule.{Rule}
 use Rattle.losses.specs.declared.Rule.TheVariants.{Mixed, Carried}
@@ -29,22 +29,22 @@ abbrev pub without : ℕ → ℕ → Column → Column
 without x y c = put x 0 (put y 0 c)
 
 -- the byte of role x by equation 1: the sum of the data and P
-abbrev pub byP : ℕ → ℕ → Column → ℕ
-byP n x c = total (n + 1) (put x 0 c)
+abbrev pub by_p : ℕ → ℕ → Column → ℕ
+by_p n x c = total (n + 1) (put x 0 c)
 
 unfoldable pub solved : ℕ → ℕ → ℕ → Rule → Column → Column
 solved n x y rule c =
-    let bytes = solution rule (syndromeP n (without x y c)) (syndromeQ reedSolomon n (without x y c)) in
+    let bytes = solution rule (syndrome_p n (without x y c)) (syndrome_q reed_solomon n (without x y c)) in
     put x bytes.first (put y bytes.second c)
 
-abbrev pub restoredBy : ℕ → Plan → Column → Column
-restoredBy n (ByP x) c = put x (byP n x c) c
-restoredBy n (FromData true) c = encodeColumn reedSolomon n c
-restoredBy n (FromData false) c = put (n + 1) (parityQ reedSolomon n c) c
-restoredBy n (ByBoth x y rule) c = solved n x y rule c
+abbrev pub restored_by : ℕ → Plan → Column → Column
+restored_by n (ByP x) c = put x (by_p n x c) c
+restored_by n (FromData true) c = encode_column reed_solomon n c
+restored_by n (FromData false) c = put (n + 1) (parity_q reed_solomon n c) c
+restored_by n (ByBoth x y rule) c = solved n x y rule c
 
 -- the roles of a plan are those of a stripe with n data disks
 abbrev pub KnownPlan : ℕ → Plan → Type 0
 KnownPlan n (ByP x) = x < n + 2
-KnownPlan n (FromData with-p) = Unit {0}
+KnownPlan n (FromData with_p) = Unit {0}
 KnownPlan n (ByBoth x y rule) = (x < n + 2) × (y < n + 2)

@@ -16,30 +16,30 @@ module _ {A : Type 0} (op : A → A → A) (e : A) where
   fold_more n f = rw add-one
 
   -- what f is at n and above does not matter
-  pub fold-ext : (n : ℕ) (f g : ℕ → A) → ((k : ℕ) → k < n → f k ≡ g k) → fold op e n f ≡ fold op e n g
+  pub fold_ext : (n : ℕ) (f g : ℕ → A) → ((k : ℕ) → k < n → f k ≡ g k) → fold op e n f ≡ fold op e n g
   unfolding fold
-  fold-ext zero f g h = refl
-  fold-ext (suc n) f g h = ap₂ op (fold-ext n f g (λ k l. h k (omega arith))) (h n (omega arith))
+  fold_ext zero f g h = refl
+  fold_ext (suc n) f g h = ap₂ op (fold_ext n f g (λ k l. h k (omega arith))) (h n (omega arith))
 
   -- a value that hides all that comes after it is the fold's from the place where it is met
-  pub fold-met : {x : A} → ((y : A) → op x y ≡ x) → (n k : ℕ) (f : ℕ → A) → k < n → op (fold op e k f) (f k) ≡ x → fold op e n f ≡ x
+  pub fold_met : {x : A} → ((y : A) → op x y ≡ x) → (n k : ℕ) (f : ℕ → A) → k < n → op (fold op e k f) (f k) ≡ x → fold op e n f ≡ x
   unfolding fold
-  fold-met {x} hides n k f l p = le_ind (λ (m : ℕ). fold op e m f ≡ x) p (λ m _ q. ap (λ (z : A). op z (f m)) q ∙ hides (f m)) n l
+  fold_met {x} hides n k f l p = le_ind (λ (m : ℕ). fold op e m f ≡ x) p (λ m _ q. ap (λ (z : A). op z (f m)) q ∙ hides (f m)) n l
 
   -- the fold is e where f is e at each place, and only there if op gives e at no other two values than e and e
-  pub fold-none : op e e ≡ e → (n : ℕ) (f : ℕ → A) → ((k : ℕ) → k < n → f k ≡ e) → fold op e n f ≡ e
+  pub fold_none : op e e ≡ e → (n : ℕ) (f : ℕ → A) → ((k : ℕ) → k < n → f k ≡ e) → fold op e n f ≡ e
   unfolding fold
-  fold-none u zero f h = refl
-  fold-none u (suc n) f h = ap₂ op (fold-none u n f (λ k l. h k (omega arith))) (h n (omega arith)) ∙ u
+  fold_none u zero f h = refl
+  fold_none u (suc n) f h = ap₂ op (fold_none u n f (λ k l. h k (omega arith))) (h n (omega arith)) ∙ u
 
-  pub none-fold : ((x y : A) → op x y ≡ e → (x ≡ e) × (y ≡ e)) → (n : ℕ) (f : ℕ → A) → fold op e n f ≡ e → (k : ℕ) → k < n → f k ≡ e
+  pub none_fold : ((x y : A) → op x y ≡ e → (x ≡ e) × (y ≡ e)) → (n : ℕ) (f : ℕ → A) → fold op e n f ≡ e → (k : ℕ) → k < n → f k ≡ e
   unfolding fold
-  none-fold h zero f p k l = absurd (not-suc-le-zero l)
-  none-fold h (suc n) f p k l =
-      ⊎_elim (λ q. ap f q ∙ (h _ _ p).1) (λ b. none-fold h n f (h _ _ p).0 k b) (eq-or-lt_of_le (le_of_suc-le-suc l))
+  none_fold h zero f p k l = absurd (not-suc-le-zero l)
+  none_fold h (suc n) f p k l =
+      ⊎_elim (λ q. ap f q ∙ (h _ _ p).1) (λ b. none_fold h n f (h _ _ p).0 k b) (eq-or-lt_of_le (le_of_suc-le-suc l))
 
 -- a sum of n terms of at most b
-pub sum-le : (b n : ℕ) (f : ℕ → ℕ) → ((k : ℕ) → f k ≤ b) → sum n f ≤ n * b
+pub sum_le : (b n : ℕ) (f : ℕ → ℕ) → ((k : ℕ) → f k ≤ b) → sum n f ≤ n * b
 unfolding fold
-sum-le b zero f h = zero-le
-sum-le b (suc n) f h = rw suc-mul (add-le-add (sum-le b n f h) (h n))
+sum_le b zero f h = zero-le
+sum_le b (suc n) f h = rw suc-mul (add-le-add (sum_le b n f h) (h n))

@@ -34,12 +34,12 @@ abbrev pub add : Matrix → Matrix → Matrix
 add a b = tabulate 8 (λ r. bit_xor (row a r) (row b r))
 
 -- v maps to zero only if it is zero
-abbrev pub onlyZeroAt : Matrix → ℕ → Bool
-onlyZeroAt m v = eqb v 0 || not (eqb (apply m v) 0)
+abbrev pub only_zero_at : Matrix → ℕ → Bool
+only_zero_at m v = eqb v 0 || not (eqb (apply m v) 0)
 
 -- invertible: only the zero vector maps to zero
 unfoldable pub invertible : Matrix → Bool
-invertible m = all 256 (λ v. onlyZeroAt m v)
+invertible m = all 256 (λ v. only_zero_at m v)
 
 abbrev pub singular : Matrix → Bool
 singular m = not (invertible m)

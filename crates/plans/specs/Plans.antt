@@ -6,9 +6,9 @@ use Rattle.column.specs.declared.Device.{Device}
 use Rattle.column.specs.declared.Device.TheVariants.{Data, P, Q}
 use Rattle.column.specs.declared.Lost.{Lost}
 use Rattle.column.specs.declared.Lost.TheVariants.{One, Two}
-use Rattle.column.specs.Column.{overPower, coefficients}
+use Rattle.column.specs.Column.{over_power, coefficients}
 use Rattle.shape.specs.declared.Geometry.{Geometry}
-use Rattle.devices.specs.Refusals.{rebuildRefusal}
+use Rattle.devices.specs.Refusals.{rebuild_refusal}
 use Rattle.losses.specs.declared.Rule.{Rule}
 use Rattle.losses.specs.declared.Rule.TheVariants.{Mixed, Carried}
 use Rattle.losses.specs.declared.Plan.{Plan}
@@ -27,21 +27,21 @@ alone n P = ByP n
 alone n Q = FromData false
 
 -- data disk x and another device
-abbrev pub withData : ℕ → ℕ → Device → Plan
-withData n x (Data y) = ByBoth x y (mixed x y)
-withData n x P = ByBoth x n (Mixed (element 0) (element (overPower x)))
-withData n x Q = ByBoth x (n + 1) (Carried (element (power 2 x)))
+abbrev pub with_data : ℕ → ℕ → Device → Plan
+with_data n x (Data y) = ByBoth x y (mixed x y)
+with_data n x P = ByBoth x n (Mixed (element 0) (element (over_power x)))
+with_data n x Q = ByBoth x (n + 1) (Carried (element (power 2 x)))
 
 abbrev pub plan_of : ℕ → Lost → Plan
 plan_of n (One d) = alone n d
-plan_of n (Two (Data x) e) = withData n x e
-plan_of n (Two P (Data x)) = withData n x P
+plan_of n (Two (Data x) e) = with_data n x e
+plan_of n (Two P (Data x)) = with_data n x P
 plan_of n (Two P P) = alone n P
 plan_of n (Two P Q) = FromData true
-plan_of n (Two Q (Data x)) = withData n x Q
+plan_of n (Two Q (Data x)) = with_data n x Q
 plan_of n (Two Q P) = FromData true
 plan_of n (Two Q Q) = alone n Q
 
 -- what a rebuild asks for: its refusal, or else the plan of its loss
 abbrev pub asked_of : Geometry → ℕ → Lost → Asked
-asked_of g len lost = choose (eqb (rebuildRefusal g len lost) 0) (Rebuild (plan_of g.n lost)) (Refused (rebuildRefusal g len lost))
+asked_of g len lost = choose (eqb (rebuild_refusal g len lost) 0) (Rebuild (plan_of g.n lost)) (Refused (rebuild_refusal g len lost))

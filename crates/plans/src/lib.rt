@@ -2,9 +2,9 @@
 // losses.
 ghost use Rattle.std.specs.Prelude.{◌≡◌, ◌≢◌, ◌≤◌, ◌<◌};
 ghost use Rattle.gf256.specs.Field.{power};
-ghost use Rattle.column.specs.Column.{overPower};
+ghost use Rattle.column.specs.Column.{over_power};
 ghost use Rattle.column.specs.Loss.{KnownLoss};
-ghost use Rattle.plans.specs.Plans.{alone, withData, plan_of, asked_of, mixed};
+ghost use Rattle.plans.specs.Plans.{alone, with_data, plan_of, asked_of, mixed};
 
 use column::{Device, Lost};
 use gf256::{Element, Inverse};
@@ -66,7 +66,7 @@ fn together(n: usize, first: Device, second: Device) -> Plan
 // Data disk x and another device.
 fn with_data(n: usize, x: usize, other: Device) -> Plan
     requires { (n ≤ 255) × KnownLoss n (Lost.Two (Device.Data x) other) }
-    ensures { result ≡ withData n x other }
+    ensures { result ≡ with_data n x other }
 {
     match other {
         Device::Data(y) => Plan::ByBoth(x, y, coefficients(x, y)),
@@ -84,7 +84,7 @@ fn power_of_disk(x: usize) -> Element
 
 // 02^-x. A power of 02 is never 00, so it has an inverse.
 fn over_power(x: usize) -> Element
-    ensures { result.0 ≡ overPower x }
+    ensures { result.0 ≡ over_power x }
 {
     match power_of_disk(x).inverse() {
         Inverse::Is(over) => over,

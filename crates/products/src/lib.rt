@@ -3,14 +3,14 @@
 ghost use Rattle.std.specs.Prelude.{◌≡◌, get_or};
 ghost use Rattle.gf256.specs.Field.{double};
 ghost use Rattle.chunk.specs.Chunk.{each};
-ghost use Rattle.products.specs.Products.{plusProduct, plusBit, combined};
+ghost use Rattle.products.specs.Products.{plus_product, plus_bit, combined};
 
 use chunk::WIDTH;
 use gf256::Element;
 
 // a + c x, by c's bits from the lowest up.
 pub fn add_product(a: &mut [u8; WIDTH], c: Element, x: [u8; WIDTH])
-    ensures { a.new ≡ plusProduct a.old c.0 x }
+    ensures { a.new ≡ plus_product a.old c.0 x }
 {
     let _a: &[u8] = a;
     let mut c = c.0;
@@ -39,7 +39,7 @@ pub fn combine(a: Element, p: [u8; WIDTH], b: Element, q: [u8; WIDTH]) -> [u8; W
 
 // 02 d, and x where the lowest bit of m is one, and y where that of n is.
 fn add_bits(d: &mut [u8; WIDTH], m: u8, x: &[u8; WIDTH], n: u8, y: &[u8; WIDTH])
-    ensures { d.new ≡ each (λ j. plusBit (plusBit (double (get_or d.old j 0)) m (get_or x.now j 0)) n (get_or y.now j 0)) }
+    ensures { d.new ≡ each (λ j. plus_bit (plus_bit (double (get_or d.old j 0)) m (get_or x.now j 0)) n (get_or y.now j 0)) }
 {
     let _d: &[u8] = d;
     let mut j = 0;
@@ -52,7 +52,7 @@ fn add_bits(d: &mut [u8; WIDTH], m: u8, x: &[u8; WIDTH], n: u8, y: &[u8; WIDTH])
 }
 
 fn add_bit(z: Element, m: u8, x: Element) -> Element
-    ensures { result.0 ≡ plusBit z.0 m x.0 }
+    ensures { result.0 ≡ plus_bit z.0 m x.0 }
 {
     if m % 2 == 1 { z.sum(x) } else { z }
 }

@@ -1,6 +1,6 @@
 // The report of a check as bytes: the summary and the verdicts of a stripe, each as a field.
 ghost use Rattle.std.specs.Prelude.{◌≡◌, ◌+◌, ◌*◌, length};
-ghost use Rattle.shape.specs.Refusals.{checkRefusal};
+ghost use Rattle.shape.specs.Refusals.{check_refusal};
 ghost use Rattle.compare.specs.Compare.{verdicts};
 ghost use Rattle.header.specs.Fields.{fields};
 ghost use Rattle.report.specs.Report.{report, ReportCall};
@@ -24,7 +24,7 @@ pub fn check(g: Geometry, stripe: &[u8], room: &mut [u16], out: &mut [u8])
 
 // The check that is not refused, with an output of the report's length.
 fn check_in(g: Geometry, stripe: &[u8], room: &mut [u16], out: &mut [u8])
-    requires { (checkRefusal g (length stripe.now) (length room.old) ≡ 0) × (length out.old ≡ 2 + 2 * g.b) }
+    requires { (check_refusal g (length stripe.now) (length room.old) ≡ 0) × (length out.old ≡ 2 + 2 * g.b) }
     ensures { (room.new ≡ verdicts g stripe.now) × (out.new ≡ report (verdicts g stripe.now)) }
 {
     let Checked::Summary(summary) = stripe::check(g, stripe, room) else {

@@ -1,14 +1,14 @@
 // What was lost, restored by a plan: in each column the bytes of the lost roles from the others. The
 // columns are worked on in chunks.
 ghost use Rattle.std.specs.Prelude.{◌≡◌, ◌+◌, ◌≤◌, ◌<◌};
-ghost use Rattle.column.specs.Column.{encodeColumn, reedSolomon};
+ghost use Rattle.column.specs.Column.{encode_column, reed_solomon};
 ghost use Rattle.chunk.specs.Chunk.{width};
-ghost use Rattle.losses.specs.Losses.{without, restoredBy, solved, KnownPlan};
+ghost use Rattle.losses.specs.Losses.{without, restored_by, solved, KnownPlan};
 ghost use Rattle.shape.specs.Layout.{lift};
 ghost use Rattle.shape.specs.Refusals.{WellShaped};
 ghost use Rattle.shape.specs.Columns.{ColumnsMapped};
-ghost use Rattle.stretch.specs.Stretch.{Has, columnOf};
-ghost use Rattle.sums.specs.Sums.{sumsOf};
+ghost use Rattle.stretch.specs.Stretch.{Has, column_of};
+ghost use Rattle.sums.specs.Sums.{sums_of};
 ghost use Rattle.sums.specs.Strip.{strip, HasStrip};
 ghost use Rattle.restore.specs.Restore.{restored, Survivors};
 
@@ -34,7 +34,7 @@ pub fn restore(g: Geometry, stripe: &mut [u8], plan: Plan)
 // By strips where that is faster.
 fn restore_known(g: Geometry, stripe: &mut [u8], plan: Plan)
     requires { WellShaped g stripe.old × KnownPlan g.n plan }
-    ensures { stripe.new ≡ lift g (λ i c. restoredBy g.n plan c) stripe.old }
+    ensures { stripe.new ≡ lift g (λ i c. restored_by g.n plan c) stripe.old }
 {
     match plan {
         Plan::ByP(_) => restore_columns(g, stripe, plan),
@@ -58,7 +58,7 @@ fn restore_known(g: Geometry, stripe: &mut [u8], plan: Plan)
 // Encode, in passes or by strips where that is faster. It is a rebuild of both parities: P is P* and Q is Q* of the data alone.
 fn restore_parities(g: Geometry, stripe: &mut [u8])
     requires { WellShaped g stripe.old }
-    ensures { stripe.new ≡ lift g (λ i c. encodeColumn reedSolomon g.n c) stripe.old }
+    ensures { stripe.new ≡ lift g (λ i c. encode_column reed_solomon g.n c) stripe.old }
 {
     if sums::in_passes(g) {
         sums::set_parities(g, stripe);
@@ -126,7 +126,7 @@ fn set_solved(
 // its own loop, so that it is not asked for again at each chunk.
 fn restore_columns(g: Geometry, stripe: &mut [u8], plan: Plan)
     requires { WellShaped g stripe.old × KnownPlan g.n plan }
-    ensures { stripe.new ≡ lift g (λ i c. restoredBy g.n plan c) stripe.old }
+    ensures { stripe.new ≡ lift g (λ i c. restored_by g.n plan c) stripe.old }
 {
     if g.b < WIDTH {
         parts::restore_part(g, stripe, plan);
@@ -141,7 +141,7 @@ fn restore_columns(g: Geometry, stripe: &mut [u8], plan: Plan)
 
 fn columns_by_p(g: Geometry, stripe: &mut [u8], x: usize)
     requires { WellShaped g stripe.old × (width ≤ g.b) × (x < g.n + 2) }
-    ensures { stripe.new ≡ lift g (λ i c. restoredBy g.n (Plan.ByP x) c) stripe.old }
+    ensures { stripe.new ≡ lift g (λ i c. restored_by g.n (Plan.ByP x) c) stripe.old }
 {
     let mut done = 0;
     while done < g.b {
@@ -153,7 +153,7 @@ fn columns_by_p(g: Geometry, stripe: &mut [u8], x: usize)
 
 fn columns_from_data(g: Geometry, stripe: &mut [u8], both: bool)
     requires { WellShaped g stripe.old × (width ≤ g.b) }
-    ensures { stripe.new ≡ lift g (λ i c. restoredBy g.n (Plan.FromData both) c) stripe.old }
+    ensures { stripe.new ≡ lift g (λ i c. restored_by g.n (Plan.FromData both) c) stripe.old }
 {
     let mut done = 0;
     while done < g.b {
@@ -177,7 +177,7 @@ fn columns_by_both(g: Geometry, stripe: &mut [u8], x: usize, y: usize, rule: Rul
 
 fn restore_by_p(g: Geometry, stripe: &mut [u8], i: usize, x: usize)
     requires { Has g stripe.old i width × (x < g.n + 2) }
-    ensures { ColumnsMapped g i width (λ j c. restoredBy g.n (Plan.ByP x) c) stripe.old stripe.new }
+    ensures { ColumnsMapped g i width (λ j c. restored_by g.n (Plan.ByP x) c) stripe.old stripe.new }
 {
     let p = sums::sum_without(g, stripe, i, WIDTH, x);
     stretch::set(g, stripe, x, i, WIDTH, p);
@@ -185,7 +185,7 @@ fn restore_by_p(g: Geometry, stripe: &mut [u8], i: usize, x: usize)
 
 fn restore_from_data(g: Geometry, stripe: &mut [u8], i: usize, both: bool)
     requires { Has g stripe.old i width }
-    ensures { ColumnsMapped g i width (λ j c. restoredBy g.n (Plan.FromData both) c) stripe.old stripe.new }
+    ensures { ColumnsMapped g i width (λ j c. restored_by g.n (Plan.FromData both) c) stripe.old stripe.new }
 {
     let s = sums::parities(g, stripe, i);
     let p = s.p;
@@ -218,7 +218,7 @@ fn set_mixed(
     b: Element,
     s: Sums,
 )
-    requires { Has g stripe.old i width × (x < g.n + 2) × (y < g.n + 2) × (s ≡ sumsOf g.n (λ j. without x y (columnOf g stripe.old i width j))) }
+    requires { Has g stripe.old i width × (x < g.n + 2) × (y < g.n + 2) × (s ≡ sums_of g.n (λ j. without x y (column_of g stripe.old i width j))) }
     ensures { ColumnsMapped g i width (λ j c. solved g.n x y (Rule.Mixed a b) c) stripe.old stripe.new }
 {
     let mut p = s.p;
@@ -231,7 +231,7 @@ fn set_mixed(
 
 // The first is p, the second q + c p.
 fn set_carried(g: Geometry, stripe: &mut [u8], i: usize, x: usize, y: usize, c: Element, s: Sums)
-    requires { Has g stripe.old i width × (x < g.n + 2) × (y < g.n + 2) × (s ≡ sumsOf g.n (λ j. without x y (columnOf g stripe.old i width j))) }
+    requires { Has g stripe.old i width × (x < g.n + 2) × (y < g.n + 2) × (s ≡ sums_of g.n (λ j. without x y (column_of g stripe.old i width j))) }
     ensures { ColumnsMapped g i width (λ j c'. solved g.n x y (Rule.Carried c) c') stripe.old stripe.new }
 {
     let p = s.p;

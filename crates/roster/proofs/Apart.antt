@@ -18,39 +18,39 @@ use Rattle.roster.specs.declared.Written.{Written}
 use Rattle.roster.specs.declared.Written.TheVariants as written
 use Rattle.roster.specs.Calls.{read_of, written_of}
 
-abbrev faultOf : ℕ → Fault
-faultOf n = choose (eqb n 30) BadCharacter (choose (eqb n 31) BadLength (choose (eqb n 32) NoLineFeed (choose (eqb n 33) Repeated PastLast)))
+abbrev fault_of : ℕ → Fault
+fault_of n = choose (eqb n 30) BadCharacter (choose (eqb n 31) BadLength (choose (eqb n 32) NoLineFeed (choose (eqb n 33) Repeated PastLast)))
 
-fault-back : (f : Fault) → (eqb (number_of f) 0 ≡ false) × (eqb (number_of f) 35 ≡ false) × (faultOf (number_of f) ≡ f)
-fault-back BadCharacter = (refl, refl, refl)
-fault-back BadLength = (refl, refl, refl)
-fault-back NoLineFeed = (refl, refl, refl)
-fault-back Repeated = (refl, refl, refl)
-fault-back PastLast = (refl, refl, refl)
+fault_back : (f : Fault) → (eqb (number_of f) 0 ≡ false) × (eqb (number_of f) 35 ≡ false) × (fault_of (number_of f) ≡ f)
+fault_back BadCharacter = (refl, refl, refl)
+fault_back BadLength = (refl, refl, refl)
+fault_back NoLineFeed = (refl, refl, refl)
+fault_back Repeated = (refl, refl, refl)
+fault_back PastLast = (refl, refl, refl)
 
-pub not-35 : (f : Fault) → number_of f ≢ 35
-not-35 f = eqb-false (number_of f) 35 (fault-back f).1
+pub not_35 : (f : Fault) → number_of f ≢ 35
+not_35 f = eqb-false (number_of f) 35 (fault_back f).1
 
 -- ---- the reader's
 abbrev reading_of : Answer → Reading
-reading_of a = choose (eqb a.number 0) (read.Slots (get_or a.values 0 0)) (read.Refused (faultOf a.number) (get_or a.values 0 0))
+reading_of a = choose (eqb a.number 0) (read.Slots (get_or a.values 0 0)) (read.Refused (fault_of a.number) (get_or a.values 0 0))
 
-reading-back : (r : Reading) → reading_of (read_of r) ≡ r
-reading-back (read.Slots n) = refl
-reading-back (read.Refused f line) = let back = fault-back f in rw (back.0, back.2)
+reading_back : (r : Reading) → reading_of (read_of r) ≡ r
+reading_back (read.Slots n) = refl
+reading_back (read.Refused f line) = let back = fault_back f in rw (back.0, back.2)
 
-pub read-apart : (r t : Reading) → read_of r ≡ read_of t → r ≡ t
-read-apart r t e = sym (reading-back r) ∙ ap reading_of e ∙ reading-back t
+pub read_apart : (r t : Reading) → read_of r ≡ read_of t → r ≡ t
+read_apart r t e = sym (reading_back r) ∙ ap reading_of e ∙ reading_back t
 
 -- ---- the writer's
 abbrev written_by : Answer → Written
 written_by a =
     choose (eqb a.number 0) (written.Length (get_or a.values 0 0))
-    (choose (eqb a.number 35) written.NoRoom (written.Refused (faultOf a.number) (get_or a.values 0 0)))
+    (choose (eqb a.number 35) written.NoRoom (written.Refused (fault_of a.number) (get_or a.values 0 0)))
 
 written_back : (r : Written) → written_by (written_of r) ≡ r
 written_back (written.Length n) = refl
-written_back (written.Refused f line) = let back = fault-back f in rw (back.0, back.1, back.2)
+written_back (written.Refused f line) = let back = fault_back f in rw (back.0, back.1, back.2)
 written_back written.NoRoom = refl
 
 pub written_apart : (r t : Written) → written_of r ≡ written_of t → r ≡ t

@@ -5,63 +5,63 @@ use mathlib.Core.List.{List, [], ◌∷◌}
 use Prim.Native.Nat.{ℕ, zero, suc, ◌+◌, ◌/◌, ◌%◌}
 use Rattle.serials.specs.declared.Found.TheVariants.{Slot, Nowhere}
 use Rattle.serials.specs.Bytes.{bytes}
-use Rattle.serials.specs.Serials.{serials, serialsFrom}
-use Rattle.serials.specs.LookUp.{lookUp, lookUpFrom}
+use Rattle.serials.specs.Serials.{serials, serials_from}
+use Rattle.serials.specs.LookUp.{look_up, look_up_from}
 use Rattle.lines.specs.declared.Fault.TheVariants.{BadCharacter, BadLength, NoLineFeed, Repeated, PastLast}
 use Rattle.lines.specs.Lines.{lines}
-use Rattle.lines.specs.Faults.{lineNumber, firstFault}
+use Rattle.lines.specs.Faults.{line_number, first_fault}
 use Rattle.roster.specs.declared.Reading.TheVariants.{Slots, Refused}
-use Rattle.roster.specs.Text.{rosterText, endsFrom, lineEnds}
-use Rattle.roster.specs.Calls.{read_of, readAnswer}
+use Rattle.roster.specs.Text.{roster_text, ends_from, line_ends}
+use Rattle.roster.specs.Calls.{read_of, read_answer}
 
 -- an empty text is a roster of no slots
-pub empty : readAnswer [] ≡ read_of (Slots 0)
-unfolding readAnswer lines firstFault
+pub empty : read_answer [] ≡ read_of (Slots 0)
+unfolding read_answer lines first_fault
 empty = refl
 
-pub two-slots : readAnswer (bytes "11\n1\n") ≡ read_of (Slots 2)
-unfolding readAnswer lines firstFault lineNumber lookUpFrom
-two-slots = refl
+pub two_slots : read_answer (bytes "11\n1\n") ≡ read_of (Slots 2)
+unfolding read_answer lines first_fault line_number look_up_from
+two_slots = refl
 
 -- a bad character goes before the length: these are 21 characters
-pub bad-and-overlong : readAnswer (bytes "abcdefghijklmnopqrstu\n") ≡ read_of (Refused BadCharacter 1)
-unfolding readAnswer lines firstFault lineNumber
-bad-and-overlong = refl
+pub bad_and_overlong : read_answer (bytes "abcdefghijklmnopqrstu\n") ≡ read_of (Refused BadCharacter 1)
+unfolding read_answer lines first_fault line_number
+bad_and_overlong = refl
 
-pub overlong : readAnswer (bytes "ABCDEFGHIJKLMNOPQRSTU\n") ≡ read_of (Refused BadLength 1)
-unfolding readAnswer lines firstFault lineNumber
+pub overlong : read_answer (bytes "ABCDEFGHIJKLMNOPQRSTU\n") ≡ read_of (Refused BadLength 1)
+unfolding read_answer lines first_fault line_number
 overlong = refl
 
-pub empty-line : readAnswer (bytes "A\n\n") ≡ read_of (Refused BadLength 2)
-unfolding readAnswer lines firstFault lineNumber lookUpFrom
-empty-line = refl
+pub empty_line : read_answer (bytes "A\n\n") ≡ read_of (Refused BadLength 2)
+unfolding read_answer lines first_fault line_number look_up_from
+empty_line = refl
 
-pub no-line-feed : readAnswer (bytes "A") ≡ read_of (Refused NoLineFeed 1)
-unfolding readAnswer lines firstFault lineNumber
-no-line-feed = refl
+pub no_line_feed : read_answer (bytes "A") ≡ read_of (Refused NoLineFeed 1)
+unfolding read_answer lines first_fault line_number
+no_line_feed = refl
 
 -- a missing line feed goes before an earlier line's serial
-pub no-line-feed-and-repeated : readAnswer (bytes "A\nA") ≡ read_of (Refused NoLineFeed 2)
-unfolding readAnswer lines firstFault lineNumber lookUpFrom
-no-line-feed-and-repeated = refl
+pub no_line_feed_and_repeated : read_answer (bytes "A\nA") ≡ read_of (Refused NoLineFeed 2)
+unfolding read_answer lines first_fault line_number look_up_from
+no_line_feed_and_repeated = refl
 
-pub repeated : readAnswer (bytes "A\nA\n") ≡ read_of (Refused Repeated 2)
-unfolding readAnswer lines firstFault lineNumber lookUpFrom
+pub repeated : read_answer (bytes "A\nA\n") ≡ read_of (Refused Repeated 2)
+unfolding read_answer lines first_fault line_number look_up_from
 repeated = refl
 
 -- the earliest faulty line, though a later one has a lower number
-pub earliest : readAnswer (bytes "A\nA\na\n") ≡ read_of (Refused Repeated 2)
-unfolding readAnswer lines firstFault lineNumber lookUpFrom
+pub earliest : read_answer (bytes "A\nA\na\n") ≡ read_of (Refused Repeated 2)
+unfolding read_answer lines first_fault line_number look_up_from
 earliest = refl
 
 -- ---- look-ups in what was read
-pub eleven-for-one : lookUp (serials (bytes "1\n") (lineEnds (bytes "1\n"))) (bytes "11") ≡ Nowhere
-unfolding serialsFrom endsFrom lines lookUpFrom
-eleven-for-one = refl
+pub eleven_for_one : look_up (serials (bytes "1\n") (line_ends (bytes "1\n"))) (bytes "11") ≡ Nowhere
+unfolding serials_from ends_from lines look_up_from
+eleven_for_one = refl
 
-pub one-after-eleven : lookUp (serials (bytes "11\n1\n") (lineEnds (bytes "11\n1\n"))) (bytes "1") ≡ Slot 1
-unfolding serialsFrom endsFrom lines lookUpFrom
-one-after-eleven = refl
+pub one_after_eleven : look_up (serials (bytes "11\n1\n") (line_ends (bytes "11\n1\n"))) (bytes "1") ≡ Slot 1
+unfolding serials_from ends_from lines look_up_from
+one_after_eleven = refl
 
 -- ---- 257 lines are a roster, and a line past them is refused; the serials are those of two letters, in their order from AA
 abbrev pub pair : ℕ → List ℕ
@@ -71,10 +71,10 @@ abbrev pub pairs : ℕ → ℕ → List (List ℕ)
 pairs k zero = []
 pairs k (suc n) = pair k ∷ pairs (suc k) n
 
-pub most-lines : readAnswer (rosterText (pairs 0 257)) ≡ read_of (Slots 257)
-unfolding readAnswer lines firstFault lineNumber lookUpFrom rosterText
-most-lines = refl
+pub most_lines : read_answer (roster_text (pairs 0 257)) ≡ read_of (Slots 257)
+unfolding read_answer lines first_fault line_number look_up_from roster_text
+most_lines = refl
 
-pub past-last : readAnswer (rosterText (pairs 0 258)) ≡ read_of (Refused PastLast 258)
-unfolding readAnswer lines firstFault lineNumber lookUpFrom rosterText
-past-last = refl
+pub past_last : read_answer (roster_text (pairs 0 258)) ≡ read_of (Refused PastLast 258)
+unfolding read_answer lines first_fault line_number look_up_from roster_text
+past_last = refl

@@ -11,18 +11,18 @@ use lib.Dec.{eqb, ltb, leb-suc-suc}
 use lib.ListN.{length, take, drop}
 use Rattle.bytes.specs.Bytes.{index_of, index_after}
 use Rattle.base.specs.Choice.{choose}
-use Rattle.lines.specs.Lines.{Line, lineFeed, begun, lines}
+use Rattle.lines.specs.Lines.{Line, line_feed, begun, lines}
 
-abbrev firstLine : List ℕ → ℕ → List Line
-firstLine t i = record { serial = take i t; ended = ltb i (length t) } ∷ lines (drop (suc i) t)
+abbrev first_line : List ℕ → ℕ → List Line
+first_line t i = record { serial = take i t; ended = ltb i (length t) } ∷ lines (drop (suc i) t)
 
-pub first-line : (t : List ℕ) → 0 < length t → lines t ≡ firstLine t (index_of lineFeed t)
+pub first_line_lem : (t : List ℕ) → 0 < length t → lines t ≡ first_line t (index_of line_feed t)
 unfolding index_of index_after lines
-first-line [] h = absurd (not-suc-le-zero h)
-first-line (c ∷ t) h = go (eqb c lineFeed) t (first-line t)
+first_line_lem [] h = absurd (not-suc-le-zero h)
+first_line_lem (c ∷ t) h = go (eqb c line_feed) t (first_line_lem t)
   where
-    go : (b : Bool) (t : List ℕ) → (0 < length t → lines t ≡ firstLine t (index_of lineFeed t))
-        → choose b (record { serial = []; ended = true } ∷ lines t) (begun c (lines t)) ≡ firstLine (c ∷ t) (index_after b (index_of lineFeed t))
+    go : (b : Bool) (t : List ℕ) → (0 < length t → lines t ≡ first_line t (index_of line_feed t))
+        → choose b (record { serial = []; ended = true } ∷ lines t) (begun c (lines t)) ≡ first_line (c ∷ t) (index_after b (index_of line_feed t))
     go true t rest = simp (lt-ltb 0 (suc (length t)) (omega arith))
     go false [] rest = refl
     go false (d ∷ t) rest = ap (begun c) (rest (omega arith)) ∙ simp leb-suc-suc

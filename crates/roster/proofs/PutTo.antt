@@ -7,54 +7,54 @@ use native.Mathlib.Omega.{arith}
 use borrow.Rule.Slice.PartMut.{put_mid}
 use lib.ListN.{length, get_or, take, drop, set, length-append, length-take, length-drop}
 use lib.Seq.{take_all, take_at, drop_at}
-use Rattle.base.proofs.Tails.{put-tail}
-use Rattle.lines.specs.Lines.{lineFeed}
-use Rattle.roster.specs.Text.{rosterText}
-use Rattle.roster.specs.Calls.{begunWith}
-use Rattle.roster.proofs.Text.{text-more, length_more, text-part, put-line}
+use Rattle.base.proofs.Tails.{put_tail}
+use Rattle.lines.specs.Lines.{line_feed}
+use Rattle.roster.specs.Text.{roster_text}
+use Rattle.roster.specs.Calls.{begun_with}
+use Rattle.roster.proofs.Text.{text_more, length_more, text_part, put_line}
 
 pub record PutTo (ss : List (List ℕ)) (before out : List ℕ) (at slot : ℕ) : Type 0 where
-  pub place : at ≡ length (rosterText (take slot ss))
-  pub begins : out ≡ begunWith (rosterText (take slot ss)) before
+  pub place : at ≡ length (roster_text (take slot ss))
+  pub begins : out ≡ begun_with (roster_text (take slot ss)) before
 
-pub put-none : (ss : List (List ℕ)) (before : List ℕ) → PutTo ss before before 0 0
-unfolding rosterText
-put-none ss before = record { place = refl; begins = refl }
+pub put_none : (ss : List (List ℕ)) (before : List ℕ) → PutTo ss before before 0 0
+unfolding roster_text
+put_none ss before = record { place = refl; begins = refl }
 
-module _ (ss : List (List ℕ)) (before out : List ℕ) (at slot : ℕ) (r : PutTo ss before out at slot) (fits : length (rosterText ss) ≤ length before) where
+module _ (ss : List (List ℕ)) (before out : List ℕ) (at slot : ℕ) (r : PutTo ss before out at slot) (fits : length (roster_text ss) ≤ length before) where
   abbrev text : List ℕ
-  text = rosterText (take slot ss)
+  text = roster_text (take slot ss)
 
-  pub length-put : length out ≡ length before
-  length-put = omega (arith, text-part ss slot, length-drop (length text) before, simp length-append at (ap length r.begins))
+  pub length_put : length out ≡ length before
+  length_put = omega (arith, text_part ss slot, length-drop (length text) before, simp length-append at (ap length r.begins))
 
   module _ (h : slot < length ss) where
     abbrev serial : List ℕ
     serial = get_or ss slot []
 
-    pub put-room : at + length serial < length before
-    put-room = omega (arith, text-part ss (slot + 1), length_more ss slot h, r.place)
+    pub put_room : at + length serial < length before
+    put_room = omega (arith, text_part ss (slot + 1), length_more ss slot h, r.place)
 
     module _ {m : List ℕ} {n : ℕ} (is : m ≡ serial ++ drop (length serial) (drop at out)) (size : n ≡ length serial) where
-      pub feed-room : at + n < length (put_mid at (length out - at) out m)
-      feed-room =
-          let long = length-put in
-          let low = put-room in
-          rw (put-tail at out m, is) (simp (length-append, length-take, length-drop) (omega arith))
+      pub feed_room : at + n < length (put_mid at (length out - at) out m)
+      feed_room =
+          let long = length_put in
+          let low = put_room in
+          rw (put_tail at out m, is) (simp (length-append, length-take, length-drop) (omega arith))
 
-      pub put-more : PutTo ss before (set (put_mid at (length out - at) out m) (at + n) lineFeed) (at + n + 1) (slot + 1)
-      put-more =
+      pub put_more : PutTo ss before (set (put_mid at (length out - at) out m) (at + n) line_feed) (at + n + 1) (slot + 1)
+      put_more =
           let front : take at out ≡ text = ap (take at) r.begins ∙ take_at text (drop (length text) before) at (sym r.place) in
           let rest : drop at out ≡ drop (length text) before = ap (drop at) r.begins ∙ drop_at text (drop (length text) before) at (sym r.place) in
           let end : at + n ≡ length text + length serial = omega (arith, r.place) in
-          let low = put-room in
+          let low = put_room in
           record {
             place = omega (arith, length_more ss slot h, r.place);
             begins =
-                ap₂ (λ (l : List ℕ) (k : ℕ). set l k lineFeed) (put-tail at out m ∙ ap₂ ◌++◌ front (is ∙ ap (λ (l : List ℕ). serial ++ drop (length serial) l) rest)) end
-                ∙ put-line text serial before (omega arith)
-                ∙ ap (λ (l : List ℕ). begunWith l before) (sym (text-more ss slot h));
+                ap₂ (λ (l : List ℕ) (k : ℕ). set l k line_feed) (put_tail at out m ∙ ap₂ ◌++◌ front (is ∙ ap (λ (l : List ℕ). serial ++ drop (length serial) l) rest)) end
+                ∙ put_line text serial before (omega arith)
+                ∙ ap (λ (l : List ℕ). begun_with l before) (sym (text_more ss slot h));
           }
 
-pub put_all : (ss : List (List ℕ)) (before out : List ℕ) (at slot : ℕ) → PutTo ss before out at slot → length ss ≤ slot → out ≡ begunWith (rosterText ss) before
-put_all ss before out at slot r h = r.begins ∙ ap (λ (ts : List (List ℕ)). begunWith (rosterText ts) before) (take_all slot ss h)
+pub put_all : (ss : List (List ℕ)) (before out : List ℕ) (at slot : ℕ) → PutTo ss before out at slot → length ss ≤ slot → out ≡ begun_with (roster_text ss) before
+put_all ss before out at slot r h = r.begins ∙ ap (λ (ts : List (List ℕ)). begun_with (roster_text ts) before) (take_all slot ss h)

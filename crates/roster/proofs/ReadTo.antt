@@ -15,85 +15,85 @@ use Rattle.bytes.specs.Bytes.{index_of, slice}
 use Rattle.base.specs.Refusal.{Answer}
 use Rattle.base.proofs.Choice.{below_or_not}
 use Rattle.base.proofs.Tails.{part_length}
-use Rattle.serials.specs.Serials.{serialsFrom, serials}
-use Rattle.serials.proofs.Laws.{length-serials, serials-more}
+use Rattle.serials.specs.Serials.{serials_from, serials}
+use Rattle.serials.proofs.Laws.{length_serials, serials_more}
 use Rattle.lines.specs.declared.Fault.{Fault}
-use Rattle.lines.specs.Lines.{Line, lineFeed, lines}
-use Rattle.lines.specs.Faults.{number_of, lineNumber, refusedAt, firstFault}
-use Rattle.lines.proofs.Faults.{fault-here, fault-later, fine-slot}
-use Rattle.roster.specs.Text.{endsFrom, lineEnds}
-use Rattle.roster.specs.Calls.{done, readAnswer, begunWith}
-use Rattle.roster.proofs.First.{first-line}
-use Rattle.roster.proofs.Text.{length-ends}
+use Rattle.lines.specs.Lines.{Line, line_feed, lines}
+use Rattle.lines.specs.Faults.{number_of, line_number, refused_at, first_fault}
+use Rattle.lines.proofs.Faults.{fault_here, fault_later, fine_slot}
+use Rattle.roster.specs.Text.{ends_from, line_ends}
+use Rattle.roster.specs.Calls.{done, read_answer, begun_with}
+use Rattle.roster.proofs.First.{first_line_lem}
+use Rattle.roster.proofs.Text.{length_ends}
 
-abbrev allRead : List ℕ → Answer
-allRead text = done (length (lines text))
+abbrev all_read : List ℕ → Answer
+all_read text = done (length (lines text))
 
 pub record ReadTo (text ends found : List ℕ) (slots start : ℕ) : Type 0 where
   pub most : slots ≤ 257
   pub room : length found ≡ 257
-  pub answer : readAnswer text ≡ firstFault (serials text (take slots found)) (lines (drop start text)) (allRead text)
-  pub stored : lineEnds text ≡ take slots found ++ endsFrom start (lines (drop start text))
+  pub answer : read_answer text ≡ first_fault (serials text (take slots found)) (lines (drop start text)) (all_read text)
+  pub stored : line_ends text ≡ take slots found ++ ends_from start (lines (drop start text))
   pub next : (e : ℕ) → serials text (take slots found ++ (e ∷ [])) ≡ serials text (take slots found) ++ (take (e - start) (drop start text) ∷ [])
   pub rest : drop slots found ≡ drop slots ends
 
 pub read_none : (text ends : List ℕ) → length ends ≡ 257 → ReadTo text ends ends 0 0
-unfolding readAnswer serialsFrom
+unfolding read_answer serials_from
 read_none text ends size =
     record { most = omega arith; room = size; answer = refl; stored = refl; next = λ e. refl; rest = refl }
 
-module _ (text : List ℕ) (start end : ℕ) (h : start < length text) (is : end ≡ start + index_of lineFeed (slice start (length text) text)) where
+module _ (text : List ℕ) (start end : ℕ) (h : start < length text) (is : end ≡ start + index_of line_feed (slice start (length text) text)) where
   abbrev serial : List ℕ
   serial = take (end - start) (drop start text)
 
   abbrev rest : List ℕ
   rest = drop start text
 
-  at : end ≡ start + index_of lineFeed rest
+  at : end ≡ start + index_of line_feed rest
   unfolding slice
-  at = is ∙ ap (λ (t : List ℕ). start + index_of lineFeed (drop start t)) (take-length text)
+  at = is ∙ ap (λ (t : List ℕ). start + index_of line_feed (drop start t)) (take-length text)
 
-  ended_here : ltb (index_of lineFeed rest) (length rest) ≡ ltb end (length text)
+  ended_here : ltb (index_of line_feed rest) (length rest) ≡ ltb end (length text)
   ended_here =
       let size = length-drop start text in
       let place = at in
-      ⊎_elim (λ l. lt-ltb (index_of lineFeed rest) (length rest) (omega arith) ∙ sym (lt-ltb end (length text) l))
-      (λ l. le-ltb (index_of lineFeed rest) (length rest) (omega arith) ∙ sym (le-ltb end (length text) l)) (below_or_not end (length text))
+      ⊎_elim (λ l. lt-ltb (index_of line_feed rest) (length rest) (omega arith) ∙ sym (lt-ltb end (length text) l))
+      (λ l. le-ltb (index_of line_feed rest) (length rest) (omega arith) ∙ sym (le-ltb end (length text) l)) (below_or_not end (length text))
 
-  after-here : drop (suc (index_of lineFeed rest)) rest ≡ drop (suc end) text
-  after-here =
-      let place : start + suc (index_of lineFeed rest) ≡ suc end = omega (arith, at) in
-      drop-drop (suc (index_of lineFeed rest)) start text ∙ ap (λ (n : ℕ). drop n text) place
+  after_here : drop (suc (index_of line_feed rest)) rest ≡ drop (suc end) text
+  after_here =
+      let place : start + suc (index_of line_feed rest) ≡ suc end = omega (arith, at) in
+      drop-drop (suc (index_of line_feed rest)) start text ∙ ap (λ (n : ℕ). drop n text) place
 
-  line-here : lines rest ≡ record { serial = serial; ended = ltb end (length text) } ∷ lines (drop (suc end) text)
-  line-here =
-      let bytes : index_of lineFeed rest ≡ end - start = omega (arith, at) in
-      first-line rest (omega (arith, length-drop start text)) ∙ rw (ended_here, after-here, bytes)
+  line_here : lines rest ≡ record { serial = serial; ended = ltb end (length text) } ∷ lines (drop (suc end) text)
+  line_here =
+      let bytes : index_of line_feed rest ≡ end - start = omega (arith, at) in
+      first_line_lem rest (omega (arith, length-drop start text)) ∙ rw (ended_here, after_here, bytes)
 
   module _ {ends found : List ℕ} {slots : ℕ} (r : ReadTo text ends found slots start) (within : end ≤ length text) where
     abbrev number : ℕ
-    number = lineNumber (serials text (take slots found)) serial (ltb end (length text))
+    number = line_number (serials text (take slots found)) serial (ltb end (length text))
 
     count : length (serials text (take slots found)) ≡ slots
-    count = length-serials text 0 (take slots found) ∙ length-take-le slots found (omega arith)
+    count = length_serials text 0 (take slots found) ∙ length-take-le slots found (omega arith)
 
-    pub read-refused : (f : Fault) → number_of f ≡ number → readAnswer text ≡ refusedAt (number_of f) (slots + 1)
-    read-refused f e =
+    pub read_refused : (f : Fault) → number_of f ≡ number → read_answer text ≡ refused_at (number_of f) (slots + 1)
+    read_refused f e =
         r.answer
-        ∙ ap (λ (ls : List Line). firstFault (serials text (take slots found)) ls (allRead text)) line-here
-        ∙ fault-here (serials text (take slots found)) serial (ltb end (length text)) (lines (drop (suc end) text)) (allRead text) f e
-        ∙ ap (λ (n : ℕ). refusedAt (number_of f) n) (omega (arith, count))
+        ∙ ap (λ (ls : List Line). first_fault (serials text (take slots found)) ls (all_read text)) line_here
+        ∙ fault_here (serials text (take slots found)) serial (ltb end (length text)) (lines (drop (suc end) text)) (all_read text) f e
+        ∙ ap (λ (n : ℕ). refused_at (number_of f) n) (omega (arith, count))
 
-    pub read-room : 0 ≡ number → slots < 257
-    read-room e = omega (arith, count, fine-slot (serials text (take slots found)) serial (ltb end (length text)) e)
+    pub read_room : 0 ≡ number → slots < 257
+    read_room e = omega (arith, count, fine_slot (serials text (take slots found)) serial (ltb end (length text)) e)
 
-    at-end : start + length serial ≡ end
-    at-end = omega (arith, part_length text start end (omega arith) within)
+    at_end : start + length serial ≡ end
+    at_end = omega (arith, part_length text start end (omega arith) within)
 
     pub read_more : 0 ≡ number → ReadTo text ends (set found slots end) (slots + 1) (end + 1)
-    unfolding endsFrom
+    unfolding ends_from
     read_more e =
-        let low = read-room e in
+        let low = read_room e in
         let here : take (slots + 1) (set found slots end) ≡ take slots found ++ (end ∷ []) = rw add-one (take-suc-set found slots end (omega arith)) in
         record {
           most = omega arith;
@@ -101,16 +101,16 @@ module _ (text : List ℕ) (start end : ℕ) (h : start < length text) (is : end
           answer =
               rw (here, add-one)
               (r.answer
-              ∙ ap (λ (ls : List Line). firstFault (serials text (take slots found)) ls (allRead text)) line-here
-              ∙ fault-later (serials text (take slots found)) serial (ltb end (length text)) (lines (drop (suc end) text)) (allRead text) e
-              ∙ ap (λ (ss : List (List ℕ)). firstFault ss (lines (drop (suc end) text)) (allRead text)) (sym (r.next end)));
+              ∙ ap (λ (ls : List Line). first_fault (serials text (take slots found)) ls (all_read text)) line_here
+              ∙ fault_later (serials text (take slots found)) serial (ltb end (length text)) (lines (drop (suc end) text)) (all_read text) e
+              ∙ ap (λ (ss : List (List ℕ)). first_fault ss (lines (drop (suc end) text)) (all_read text)) (sym (r.next end)));
           stored =
               rw (here, add-one)
               (r.stored
-              ∙ ap (λ (ls : List Line). take slots found ++ endsFrom start ls) line-here
-              ∙ ap (λ (n : ℕ). take slots found ++ (n ∷ endsFrom (suc n) (lines (drop (suc end) text)))) at-end
-              ∙ sym (append_snoc (take slots found) end (endsFrom (suc end) (lines (drop (suc end) text)))));
-          next = λ e. rw (here, add-one) (serials-more text 0 (take slots found) end e);
+              ∙ ap (λ (ls : List Line). take slots found ++ ends_from start ls) line_here
+              ∙ ap (λ (n : ℕ). take slots found ++ (n ∷ ends_from (suc n) (lines (drop (suc end) text)))) at_end
+              ∙ sym (append_snoc (take slots found) end (ends_from (suc end) (lines (drop (suc end) text)))));
+          next = λ e. rw (here, add-one) (serials_more text 0 (take slots found) end e);
           rest =
               drop-set-lt (slots + 1) found slots end (omega arith)
               ∙ sym (drop-drop 1 slots found)
@@ -119,16 +119,16 @@ module _ (text : List ℕ) (start end : ℕ) (h : start < length text) (is : end
         }
 
 pub read_all : {text ends found : List ℕ} {slots start : ℕ} → ReadTo text ends found slots start → length text ≤ start
-    → (readAnswer text ≡ done slots) × (found ≡ begunWith (lineEnds text) ends)
-unfolding lines firstFault endsFrom
+    → (read_answer text ≡ done slots) × (found ≡ begun_with (line_ends text) ends)
+unfolding lines first_fault ends_from
 read_all {text} {ends} {found} {slots} {start} r h =
     let none : drop start text ≡ [] = drop_of_length-le text h in
-    let all : lineEnds text ≡ take slots found =
-    r.stored ∙ ap (λ (t : List ℕ). take slots found ++ endsFrom start (lines t)) none ∙ append-nil (take slots found)
+    let all : line_ends text ≡ take slots found =
+    r.stored ∙ ap (λ (t : List ℕ). take slots found ++ ends_from start (lines t)) none ∙ append-nil (take slots found)
     in
-    let count : length (lineEnds text) ≡ slots = ap length all ∙ length-take-le slots found (omega arith) in (
+    let count : length (line_ends text) ≡ slots = ap length all ∙ length-take-le slots found (omega arith) in (
       r.answer
-          ∙ ap (λ (t : List ℕ). firstFault (serials text (take slots found)) (lines t) (allRead text)) none
-          ∙ ap done (sym (length-ends 0 (lines text)) ∙ count),
+          ∙ ap (λ (t : List ℕ). first_fault (serials text (take slots found)) (lines t) (all_read text)) none
+          ∙ ap done (sym (length_ends 0 (lines text)) ∙ count),
       sym (take-append-drop slots found) ∙ ap₂ ◌++◌ (sym all) (r.rest ∙ ap (λ (n : ℕ). drop n ends) (sym count)),
     )

@@ -7,65 +7,65 @@ use Prim.Native.Nat.{ℕ, ◌≤◌}
 use borrow.Author.Tests.{le-ltb, not-false}
 use lib.ListN.{length, get_or, take, length-map}
 use Rattle.serials.specs.Serials.{serials}
-use Rattle.serials.proofs.Laws.{length-serials}
+use Rattle.serials.proofs.Laws.{length_serials}
 use Rattle.lines.specs.Lines.{lines}
-use Rattle.lines.specs.FirstFault.{noLine}
-use Rattle.lines.proofs.FirstFault.{faultless-fine}
+use Rattle.lines.specs.FirstFault.{no_line}
+use Rattle.lines.proofs.FirstFault.{faultless_fine}
 use Rattle.roster.specs.declared.Reading.{Reading}
 use Rattle.roster.specs.declared.Reading.TheVariants.{Slots}
 use Rattle.roster.specs.declared.Written.{Written}
 use Rattle.roster.specs.declared.Written.TheVariants.{Length}
-use Rattle.roster.specs.Text.{rosterText}
-use Rattle.roster.specs.Calls.{read_of, written_of, readAnswer, writeAnswer, asLine, ReadCall, WriteCall}
+use Rattle.roster.specs.Text.{roster_text}
+use Rattle.roster.specs.Calls.{read_of, written_of, read_answer, write_answer, as_line, ReadCall, WriteCall}
 use Rattle.roster.specs.Roster.{Roster}
-use Rattle.roster.proofs.Roster.{serials-as-lines, passed, roster-faultless}
-use Rattle.roster.proofs.Lines.{lines-of-text, all-ended, text-of-lines}
-use Rattle.roster.proofs.Apart.{read-apart, written_apart}
-use Rattle.roster.proofs.Tells.{read-faultless, read-serials, read-roster, written-text, written-roster}
+use Rattle.roster.proofs.Roster.{serials_as_lines, passed, roster_faultless}
+use Rattle.roster.proofs.Lines.{lines_of_text, all_ended, text_of_lines}
+use Rattle.roster.proofs.Apart.{read_apart, written_apart}
+use Rattle.roster.proofs.Tells.{read_faultless, read_serials, read_roster, written_text, written_roster}
 
 -- ---- a roster is written where there is room, and its text is read as it
 module _ (ss : List (List ℕ)) (roster : Roster ss) where
-  text-lines : lines (rosterText ss) ≡ map asLine ss
-  text-lines = lines-of-text ss roster.serial
+  text_lines : lines (roster_text ss) ≡ map as_line ss
+  text_lines = lines_of_text ss roster.serial
 
-  reads : readAnswer (rosterText ss) ≡ read_of (Slots (length ss))
-  unfolding readAnswer
-  reads = rw (text-lines, length-map ss asLine) (faultless-fine (map asLine ss) (read_of (Slots (length ss))) (roster-faultless roster))
+  reads : read_answer (roster_text ss) ≡ read_of (Slots (length ss))
+  unfolding read_answer
+  reads = rw (text_lines, length-map ss as_line) (faultless_fine (map as_line ss) (read_of (Slots (length ss))) (roster_faultless roster))
 
-  writes : (room : ℕ) → length (rosterText ss) ≤ room → writeAnswer ss room ≡ written_of (Length (length (rosterText ss)))
-  unfolding writeAnswer
+  writes : (room : ℕ) → length (roster_text ss) ≤ room → write_answer ss room ≡ written_of (Length (length (roster_text ss)))
+  unfolding write_answer
   writes room fits =
-      rw (le-ltb room (length (rosterText ss)) fits)
-      (faultless-fine (map asLine ss) (written_of (Length (length (rosterText ss)))) (roster-faultless roster))
+      rw (le-ltb room (length (roster_text ss)) fits)
+      (faultless_fine (map as_line ss) (written_of (Length (length (roster_text ss)))) (roster_faultless roster))
 
-  pub roster-read : {before after : List ℕ} {r : Reading} → ReadCall (rosterText ss) before r after
-      → (r ≡ Slots (length ss)) × (serials (rosterText ss) (take (length ss) after) ≡ ss)
-  roster-read {before} {after} {r} call =
-      let is = read-apart r (Slots (length ss)) (call.answer ∙ reads) in
-      (is, read-serials (subst (λ (r : Reading). ReadCall (rosterText ss) before r after) is call) ∙ rw text-lines (serials-as-lines ss))
+  pub roster_read : {before after : List ℕ} {r : Reading} → ReadCall (roster_text ss) before r after
+      → (r ≡ Slots (length ss)) × (serials (roster_text ss) (take (length ss) after) ≡ ss)
+  roster_read {before} {after} {r} call =
+      let is = read_apart r (Slots (length ss)) (call.answer ∙ reads) in
+      (is, read_serials (subst (λ (r : Reading). ReadCall (roster_text ss) before r after) is call) ∙ rw text_lines (serials_as_lines ss))
 
-pub roster-written : {chars ends out out' : List ℕ} {r : Written} → Roster (serials chars ends) → WriteCall chars ends out r out'
-    → length (rosterText (serials chars ends)) ≤ length out
-    → (r ≡ Length (length (rosterText (serials chars ends)))) × (take (length (rosterText (serials chars ends))) out' ≡ rosterText (serials chars ends))
-roster-written {chars} {ends} {out} {out'} {r} roster call fits =
-    let is = written_apart r (Length (length (rosterText (serials chars ends)))) (call.answer ∙ writes (serials chars ends) roster (length out) fits) in
-    (is, written-text (subst (λ (r : Written). WriteCall chars ends out r out') is call))
+pub roster_written : {chars ends out out' : List ℕ} {r : Written} → Roster (serials chars ends) → WriteCall chars ends out r out'
+    → length (roster_text (serials chars ends)) ≤ length out
+    → (r ≡ Length (length (roster_text (serials chars ends)))) × (take (length (roster_text (serials chars ends))) out' ≡ roster_text (serials chars ends))
+roster_written {chars} {ends} {out} {out'} {r} roster call fits =
+    let is = written_apart r (Length (length (roster_text (serials chars ends)))) (call.answer ∙ writes (serials chars ends) roster (length out) fits) in
+    (is, written_text (subst (λ (r : Written). WriteCall chars ends out r out') is call))
 
 -- ---- written, then read
 pub read_back : {chars ends out out' before after : List ℕ} {n : ℕ} {r : Reading}
     → WriteCall chars ends out (Length n) out' → ReadCall (take n out') before r after
     → (r ≡ Slots (length ends)) × (serials (take n out') (take (length ends) after) ≡ serials chars ends)
 read_back {chars} {ends} wrote call =
-    rw (written-text wrote, ← length-serials chars 0 ends) (roster-read (serials chars ends) (written-roster wrote) (rw (written-text wrote) at call))
+    rw (written_text wrote, ← length_serials chars 0 ends) (roster_read (serials chars ends) (written_roster wrote) (rw (written_text wrote) at call))
 
 -- ---- read, then written
 module _ {text before after : List ℕ} {n : ℕ} (call : ReadCall text before (Slots n) after) where
-  text-read : rosterText (serials text (take n after)) ≡ text
-  text-read =
-      ap rosterText (read-serials call)
-      ∙ text-of-lines text
-      (all-ended (lines text) (λ k h. not-false (get_or (lines text) k noLine).ended (passed (lines text) (read-faultless call) k h).1.1.0))
+  text_read : roster_text (serials text (take n after)) ≡ text
+  text_read =
+      ap roster_text (read_serials call)
+      ∙ text_of_lines text
+      (all_ended (lines text) (λ k h. not-false (get_or (lines text) k no_line).ended (passed (lines text) (read_faultless call) k h).1.1.0))
 
-  pub write-back : {out out' : List ℕ} {r : Written} → WriteCall text (take n after) out r out' → length text ≤ length out
+  pub write_back : {out out' : List ℕ} {r : Written} → WriteCall text (take n after) out r out' → length text ≤ length out
       → (r ≡ Length (length text)) × (take (length text) out' ≡ text)
-  write-back wrote fits = rw text-read at (roster-written (read-roster call).0 wrote (rw text-read fits))
+  write_back wrote fits = rw text_read at (roster_written (read_roster call).0 wrote (rw text_read fits))

@@ -12,28 +12,28 @@ use lib.Dec.{ltb}
 use lib.ListN.{length, get_or, take, drop}
 use lib.Seq.{take_at, drop_at}
 use Rattle.base.specs.Choice.{choose}
-use Rattle.base.specs.Refusal.{Answer, unlessRefused}
-use Rattle.base.proofs.Refused.{left_alone, left-done}
+use Rattle.base.specs.Refusal.{Answer, unless_refused}
+use Rattle.base.proofs.Refused.{left_alone, left_done}
 use Rattle.serials.specs.declared.Found.TheVariants.{Slot, Nowhere}
 use Rattle.serials.specs.Serials.{serials}
-use Rattle.serials.specs.LookUp.{lookUp}
+use Rattle.serials.specs.LookUp.{look_up}
 use Rattle.lines.specs.declared.Fault.{Fault}
 use Rattle.lines.specs.Lines.{lines}
 use Rattle.lines.specs.Faults.{number_of}
-use Rattle.lines.specs.FirstFault.{serialsOf, Faultless, FirstFault}
-use Rattle.lines.proofs.Faults.{not-zero}
-use Rattle.lines.proofs.FirstFault.{search-outcome, fine-faultless, first-fault, fault-most}
+use Rattle.lines.specs.FirstFault.{serials_of, Faultless, FirstFault}
+use Rattle.lines.proofs.Faults.{not_zero}
+use Rattle.lines.proofs.FirstFault.{search_outcome, fine_faultless, first_fault_lem, fault_most}
 use Rattle.roster.specs.declared.Reading.TheVariants.{Slots}
 use Rattle.roster.specs.declared.Reading.TheVariants as read
 use Rattle.roster.specs.declared.Written.TheVariants.{Length, NoRoom}
 use Rattle.roster.specs.declared.Written.TheVariants as written
-use Rattle.roster.specs.Text.{rosterText, lineEnds}
-use Rattle.roster.specs.Calls.{read_of, written_of, readAnswer, writeAnswer, asLine, begunWith, ReadCall, WriteCall}
+use Rattle.roster.specs.Text.{roster_text, line_ends}
+use Rattle.roster.specs.Calls.{read_of, written_of, read_answer, write_answer, as_line, begun_with, ReadCall, WriteCall}
 use Rattle.roster.specs.Roster.{Roster}
-use Rattle.roster.proofs.Roster.{count_of, serials-as-lines, is-roster, each-found, long-nowhere}
-use Rattle.roster.proofs.Text.{length-ends}
-use Rattle.roster.proofs.Lines.{serials-of-lines}
-use Rattle.roster.proofs.Apart.{not-35}
+use Rattle.roster.proofs.Roster.{count_of, serials_as_lines, is_roster, each_found, long_nowhere}
+use Rattle.roster.proofs.Text.{length_ends}
+use Rattle.roster.proofs.Lines.{serials_of_lines}
+use Rattle.roster.proofs.Apart.{not_35}
 
 abbrev number : Answer → ℕ
 number a = a.number
@@ -43,134 +43,134 @@ value a = get_or a.values 0 0
 
 -- ---- the reader's answers
 module _ (text : List ℕ) where
-  pub slots-tell : {n : ℕ} → read_of (Slots n) ≡ readAnswer text → Faultless (lines text) × (n ≡ length (lines text))
-  unfolding readAnswer
-  slots-tell e =
-      let p = fine-faultless (lines text) (read_of (Slots (length (lines text)))) (sym (ap number e)) in
+  pub slots_tell : {n : ℕ} → read_of (Slots n) ≡ read_answer text → Faultless (lines text) × (n ≡ length (lines text))
+  unfolding read_answer
+  slots_tell e =
+      let p = fine_faultless (lines text) (read_of (Slots (length (lines text)))) (sym (ap number e)) in
       (p.0, ap value (e ∙ p.1))
 
-  pub reading-refused-tells : (f : Fault) {line : ℕ} → read_of (read.Refused f line) ≡ readAnswer text → FirstFault (lines text) line (number_of f)
-  unfolding readAnswer
-  reading-refused-tells f e = first-fault (lines text) (read_of (Slots (length (lines text)))) e (not-zero f)
+  pub reading_refused_tells : (f : Fault) {line : ℕ} → read_of (read.Refused f line) ≡ read_answer text → FirstFault (lines text) line (number_of f)
+  unfolding read_answer
+  reading_refused_tells f e = first_fault_lem (lines text) (read_of (Slots (length (lines text)))) e (not_zero f)
 
-  pub accepted-roster : (readAnswer text).number ≡ 0 → Roster (serials text (lineEnds text))
-  unfolding readAnswer
-  accepted-roster e = rw (serials-of-lines text) (is-roster (lines text) (fine-faultless (lines text) (read_of (Slots (length (lines text)))) e).0)
+  pub accepted_roster : (read_answer text).number ≡ 0 → Roster (serials text (line_ends text))
+  unfolding read_answer
+  accepted_roster e = rw (serials_of_lines text) (is_roster (lines text) (fine_faultless (lines text) (read_of (Slots (length (lines text)))) e).0)
 
-  pub refused-line : (readAnswer text).number ≢ 0 → value (readAnswer text) ≤ 258
-  unfolding readAnswer
-  refused-line n =
-      ⊎_elim (λ p. absurd (n (ap number p.1))) (λ p. rw p.3 (fault-most p.2)) (search-outcome (lines text) (read_of (Slots (length (lines text)))))
+  pub refused_line_lem : (read_answer text).number ≢ 0 → value (read_answer text) ≤ 258
+  unfolding read_answer
+  refused_line_lem n =
+      ⊎_elim (λ p. absurd (n (ap number p.1))) (λ p. rw p.3 (fault_most p.2)) (search_outcome (lines text) (read_of (Slots (length (lines text)))))
 
 -- ---- the writer's answers
 module _ (ss : List (List ℕ)) (room : ℕ) where
   -- where no line is faulty
-  abbrev byRoom : Bool → Answer
-  byRoom short = choose short (written_of NoRoom) (written_of (Length (length (rosterText ss))))
+  abbrev by_room : Bool → Answer
+  by_room short = choose short (written_of NoRoom) (written_of (Length (length (roster_text ss))))
 
-  has_room : {n : ℕ} (short : Bool) → written_of (Length n) ≡ byRoom short → n ≡ length (rosterText ss)
+  has_room : {n : ℕ} (short : Bool) → written_of (Length n) ≡ by_room short → n ≡ length (roster_text ss)
   has_room true e = absurd (omega (arith, ap number e))
   has_room false e = ap value e
 
-  lacks-room : (short : Bool) → written_of NoRoom ≡ byRoom short → short ≡ true
-  lacks-room true e = refl
-  lacks-room false e = absurd (omega (arith, ap number e))
+  lacks_room : (short : Bool) → written_of NoRoom ≡ by_room short → short ≡ true
+  lacks_room true e = refl
+  lacks_room false e = absurd (omega (arith, ap number e))
 
-  no-fault : (f : Fault) (short : Bool) → number_of f ≢ (byRoom short).number
-  no-fault f true = not-35 f
-  no-fault f false = not-zero f
+  no_fault : (f : Fault) (short : Bool) → number_of f ≢ (by_room short).number
+  no_fault f true = not_35 f
+  no_fault f false = not_zero f
 
-  faultless-roster : Faultless (map asLine ss) → Roster ss
-  faultless-roster faultless = subst Roster (serials-as-lines ss) (is-roster (map asLine ss) faultless)
+  faultless_roster : Faultless (map as_line ss) → Roster ss
+  faultless_roster faultless = subst Roster (serials_as_lines ss) (is_roster (map as_line ss) faultless)
 
   abbrev short : Bool
-  short = ltb room (length (rosterText ss))
+  short = ltb room (length (roster_text ss))
 
-  pub length-tells : {n : ℕ} → written_of (Length n) ≡ writeAnswer ss room → Roster ss × (n ≡ length (rosterText ss))
-  unfolding writeAnswer
-  length-tells e =
-      let p = fine-faultless (map asLine ss) (byRoom short) (sym (ap number e)) in
-      (faultless-roster p.0, has_room short (e ∙ p.1))
+  pub length_tells : {n : ℕ} → written_of (Length n) ≡ write_answer ss room → Roster ss × (n ≡ length (roster_text ss))
+  unfolding write_answer
+  length_tells e =
+      let p = fine_faultless (map as_line ss) (by_room short) (sym (ap number e)) in
+      (faultless_roster p.0, has_room short (e ∙ p.1))
 
-  pub writing-refused-tells : (f : Fault) {line : ℕ} → written_of (written.Refused f line) ≡ writeAnswer ss room
-      → FirstFault (map asLine ss) line (number_of f)
-  unfolding writeAnswer
-  writing-refused-tells f e = first-fault (map asLine ss) (byRoom short) e (no-fault f short)
+  pub writing_refused_tells : (f : Fault) {line : ℕ} → written_of (written.Refused f line) ≡ write_answer ss room
+      → FirstFault (map as_line ss) line (number_of f)
+  unfolding write_answer
+  writing_refused_tells f e = first_fault_lem (map as_line ss) (by_room short) e (no_fault f short)
 
-  pub no-room-tells : written_of NoRoom ≡ writeAnswer ss room → Roster ss × (room < length (rosterText ss))
-  unfolding writeAnswer
-  no-room-tells e =
-      ⊎_elim (λ p. (faultless-roster p.0, ltb-true room (length (rosterText ss)) (lacks-room short (e ∙ p.1))))
+  pub no_room_tells : written_of NoRoom ≡ write_answer ss room → Roster ss × (room < length (roster_text ss))
+  unfolding write_answer
+  no_room_tells e =
+      ⊎_elim (λ p. (faultless_roster p.0, ltb-true room (length (roster_text ss)) (lacks_room short (e ∙ p.1))))
       (λ p. absurd (omega (arith, p.2.counted, ap value (e ∙ p.3))))
-      (search-outcome (map asLine ss) (byRoom short))
+      (search_outcome (map as_line ss) (by_room short))
 
 -- ---- the calls: a buffer that begins with new numbers, or is as it was
-module _ (new before : List ℕ) {after : List ℕ} {k : ℕ} (is : after ≡ unlessRefused k (begunWith new before) before) where
-  begun : 0 ≡ k → after ≡ begunWith new before
-  begun e = is ∙ left-done k (begunWith new before) before (sym e)
+module _ (new before : List ℕ) {after : List ℕ} {k : ℕ} (is : after ≡ unless_refused k (begun_with new before) before) where
+  begun : 0 ≡ k → after ≡ begun_with new before
+  begun e = is ∙ left_done k (begun_with new before) before (sym e)
 
-  begun-taken : {n : ℕ} → 0 ≡ k → n ≡ length new → take n after ≡ new
-  begun-taken {n} e long = ap (take n) (begun e) ∙ take_at new (drop (length new) before) n (sym long)
+  begun_taken : {n : ℕ} → 0 ≡ k → n ≡ length new → take n after ≡ new
+  begun_taken {n} e long = ap (take n) (begun e) ∙ take_at new (drop (length new) before) n (sym long)
 
-  begun-rest : {n : ℕ} → 0 ≡ k → n ≡ length new → drop n after ≡ drop n before
-  begun-rest {n} e long = ap (drop n) (begun e) ∙ drop_at new (drop (length new) before) n (sym long) ∙ rw long
+  begun_rest : {n : ℕ} → 0 ≡ k → n ≡ length new → drop n after ≡ drop n before
+  begun_rest {n} e long = ap (drop n) (begun e) ∙ drop_at new (drop (length new) before) n (sym long) ∙ rw long
 
   untouched : {j : ℕ} → j ≢ 0 → j ≡ k → after ≡ before
-  untouched ne e = is ∙ left_alone k (begunWith new before) before (λ z. ne (e ∙ z))
+  untouched ne e = is ∙ left_alone k (begun_with new before) before (λ z. ne (e ∙ z))
 
 module _ {text before after : List ℕ} {n : ℕ} (call : ReadCall text before (Slots n) after) where
-  pub read-faultless : Faultless (lines text)
-  read-faultless = (slots-tell text call.answer).0
+  pub read_faultless : Faultless (lines text)
+  read_faultless = (slots_tell text call.answer).0
 
-  pub read-slots : n ≡ length (lines text)
-  read-slots = (slots-tell text call.answer).1
+  pub read_slots : n ≡ length (lines text)
+  read_slots = (slots_tell text call.answer).1
 
-  as_many : n ≡ length (lineEnds text)
-  as_many = read-slots ∙ sym (length-ends 0 (lines text))
+  as_many : n ≡ length (line_ends text)
+  as_many = read_slots ∙ sym (length_ends 0 (lines text))
 
-  pub read-serials : serials text (take n after) ≡ serialsOf (lines text)
-  read-serials = ap (serials text) (begun-taken (lineEnds text) before call.ends (ap number call.answer) as_many) ∙ serials-of-lines text
+  pub read_serials : serials text (take n after) ≡ serials_of (lines text)
+  read_serials = ap (serials text) (begun_taken (line_ends text) before call.ends (ap number call.answer) as_many) ∙ serials_of_lines text
 
-  pub read-rest : drop n after ≡ drop n before
-  read-rest = begun-rest (lineEnds text) before call.ends (ap number call.answer) as_many
+  pub read_rest : drop n after ≡ drop n before
+  read_rest = begun_rest (line_ends text) before call.ends (ap number call.answer) as_many
 
-  pub read-roster : Roster (serials text (take n after)) × (length (serials text (take n after)) ≡ n)
-  read-roster = rw read-serials (is-roster (lines text) read-faultless, count_of (lines text) ∙ sym read-slots)
+  pub read_roster : Roster (serials text (take n after)) × (length (serials text (take n after)) ≡ n)
+  read_roster = rw read_serials (is_roster (lines text) read_faultless, count_of (lines text) ∙ sym read_slots)
 
-  pub read_found : (k : ℕ) → k < n → lookUp (serials text (take n after)) (get_or (serials text (take n after)) k []) ≡ Slot k
-  read_found k h = each-found read-roster.0 k (omega (arith, read-roster.1))
+  pub read_found : (k : ℕ) → k < n → look_up (serials text (take n after)) (get_or (serials text (take n after)) k []) ≡ Slot k
+  read_found k h = each_found read_roster.0 k (omega (arith, read_roster.1))
 
-  pub read-long-nowhere : (asked : List ℕ) → 20 < length asked → lookUp (serials text (take n after)) asked ≡ Nowhere
-  read-long-nowhere asked l = long-nowhere read-roster.0 asked l
+  pub read_long_nowhere : (asked : List ℕ) → 20 < length asked → look_up (serials text (take n after)) asked ≡ Nowhere
+  read_long_nowhere asked l = long_nowhere read_roster.0 asked l
 
 module _ {text before after : List ℕ} {f : Fault} {line : ℕ} (call : ReadCall text before (read.Refused f line) after) where
-  pub read-refused : FirstFault (lines text) line (number_of f) × (after ≡ before)
-  read-refused =
-      (reading-refused-tells text f call.answer, untouched (lineEnds text) before call.ends (not-zero f) (ap number call.answer))
+  pub read_refused : FirstFault (lines text) line (number_of f) × (after ≡ before)
+  read_refused =
+      (reading_refused_tells text f call.answer, untouched (line_ends text) before call.ends (not_zero f) (ap number call.answer))
 
 module _ {chars ends before after : List ℕ} {n : ℕ} (call : WriteCall chars ends before (Length n) after) where
-  pub written-roster : Roster (serials chars ends)
-  written-roster = (length-tells (serials chars ends) (length before) call.answer).0
+  pub written_roster : Roster (serials chars ends)
+  written_roster = (length_tells (serials chars ends) (length before) call.answer).0
 
-  pub written-length : n ≡ length (rosterText (serials chars ends))
-  written-length = (length-tells (serials chars ends) (length before) call.answer).1
+  pub written_length : n ≡ length (roster_text (serials chars ends))
+  written_length = (length_tells (serials chars ends) (length before) call.answer).1
 
-  pub written-text : take n after ≡ rosterText (serials chars ends)
-  written-text = begun-taken (rosterText (serials chars ends)) before call.output (ap number call.answer) written-length
+  pub written_text : take n after ≡ roster_text (serials chars ends)
+  written_text = begun_taken (roster_text (serials chars ends)) before call.output (ap number call.answer) written_length
 
-  pub written-rest : drop n after ≡ drop n before
-  written-rest = begun-rest (rosterText (serials chars ends)) before call.output (ap number call.answer) written-length
+  pub written_rest : drop n after ≡ drop n before
+  written_rest = begun_rest (roster_text (serials chars ends)) before call.output (ap number call.answer) written_length
 
 module _ {chars ends before after : List ℕ} where
-  pub write-refused : {f : Fault} {line : ℕ} → WriteCall chars ends before (written.Refused f line) after
-      → FirstFault (map asLine (serials chars ends)) line (number_of f) × (after ≡ before)
-  write-refused {f} call = (
-    writing-refused-tells (serials chars ends) (length before) f call.answer,
-    untouched (rosterText (serials chars ends)) before call.output (not-zero f) (ap number call.answer),
+  pub write_refused : {f : Fault} {line : ℕ} → WriteCall chars ends before (written.Refused f line) after
+      → FirstFault (map as_line (serials chars ends)) line (number_of f) × (after ≡ before)
+  write_refused {f} call = (
+    writing_refused_tells (serials chars ends) (length before) f call.answer,
+    untouched (roster_text (serials chars ends)) before call.output (not_zero f) (ap number call.answer),
   )
 
   pub no_room : WriteCall chars ends before NoRoom after
-      → Roster (serials chars ends) × (length before < length (rosterText (serials chars ends))) × (after ≡ before)
+      → Roster (serials chars ends) × (length before < length (roster_text (serials chars ends))) × (after ≡ before)
   no_room call =
-      let p = no-room-tells (serials chars ends) (length before) call.answer in
-      (p.0, p.1, untouched (rosterText (serials chars ends)) before call.output (λ e. omega arith) (ap number call.answer))
+      let p = no_room_tells (serials chars ends) (length before) call.answer in
+      (p.0, p.1, untouched (roster_text (serials chars ends)) before call.output (λ e. omega arith) (ap number call.answer))

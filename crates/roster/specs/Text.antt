@@ -1,15 +1,15 @@
 -- The text of a roster: each serial with a line feed after it; and where the lines of a text end.
 use Rattle.std.specs.Prelude.{ℕ, suc, ◌+◌, List, [], ◌∷◌, ◌++◌, length}
-use Rattle.lines.specs.Lines.{Line, lineFeed, lines}
+use Rattle.lines.specs.Lines.{Line, line_feed, lines}
 
-unfoldable pub rosterText : List (List ℕ) → List ℕ
-rosterText [] = []
-rosterText (s ∷ ss) = s ++ (lineFeed ∷ rosterText ss)
+unfoldable pub roster_text : List (List ℕ) → List ℕ
+roster_text [] = []
+roster_text (s ∷ ss) = s ++ (line_feed ∷ roster_text ss)
 
 -- the end of each line, where the first begins at a place
-unfoldable pub endsFrom : ℕ → List Line → List ℕ
-endsFrom start [] = []
-endsFrom start (l ∷ ls) = (start + length l.serial) ∷ endsFrom (suc (start + length l.serial)) ls
+unfoldable pub ends_from : ℕ → List Line → List ℕ
+ends_from start [] = []
+ends_from start (l ∷ ls) = (start + length l.serial) ∷ ends_from (suc (start + length l.serial)) ls
 
-abbrev pub lineEnds : List ℕ → List ℕ
-lineEnds text = endsFrom 0 (lines text)
+abbrev pub line_ends : List ℕ → List ℕ
+line_ends text = ends_from 0 (lines text)

@@ -2,8 +2,8 @@
 // read, and written from any serials that are lent. A refusal comes with the line, counted from 1.
 ghost use Rattle.std.specs.Prelude.{◌≡◌, ◌≤◌, length};
 ghost use Rattle.serials.specs.Serials.{serials};
-ghost use Rattle.roster.specs.Text.{rosterText};
-ghost use Rattle.roster.specs.Calls.{written_of, judgeAnswer, begunWith, ReadCall, WriteCall};
+ghost use Rattle.roster.specs.Text.{roster_text};
+ghost use Rattle.roster.specs.Calls.{written_of, judge_answer, begun_with, ReadCall, WriteCall};
 
 use lines::{Fault, Judged, MOST};
 
@@ -64,7 +64,7 @@ pub fn write(chars: &[u8], ends: &[usize], out: &mut [u8]) -> Written
 
 // The first fault of serials to be written, or the length of their text.
 fn judge_all(chars: &[u8], ends: &[usize]) -> Written
-    ensures { written_of result ≡ judgeAnswer (serials chars.now ends.now) }
+    ensures { written_of result ≡ judge_answer (serials chars.now ends.now) }
 {
     let mut length = 0;
     let mut slot = 0;
@@ -81,8 +81,8 @@ fn judge_all(chars: &[u8], ends: &[usize]) -> Written
 }
 
 fn put_all(chars: &[u8], ends: &[usize], out: &mut [u8])
-    requires { length (rosterText (serials chars.now ends.now)) ≤ length out.old }
-    ensures { out.new ≡ begunWith (rosterText (serials chars.now ends.now)) out.old }
+    requires { length (roster_text (serials chars.now ends.now)) ≤ length out.old }
+    ensures { out.new ≡ begun_with (roster_text (serials chars.now ends.now)) out.old }
 {
     let mut at = 0;
     let mut slot = 0;

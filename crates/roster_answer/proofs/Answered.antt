@@ -7,32 +7,32 @@ use native.Mathlib.Omega.{arith}
 use lib.ListN.{length, take, length-take}
 use Rattle.base.specs.Refusal.{Answer}
 use Rattle.serials.specs.Serials.{serials}
-use Rattle.serials.specs.LookUp.{lookUp}
-use Rattle.serials.proofs.Laws.{length-serials}
+use Rattle.serials.specs.LookUp.{look_up}
+use Rattle.serials.proofs.Laws.{length_serials}
 use Rattle.lines.specs.declared.Fault.{Fault}
 use Rattle.lines.specs.Faults.{number_of}
-use Rattle.lines.proofs.Faults.{not-zero}
+use Rattle.lines.proofs.Faults.{not_zero}
 use Rattle.roster.specs.declared.Reading.{Reading}
 use Rattle.roster.specs.declared.Reading.TheVariants.{Slots, Refused}
 use Rattle.roster.specs.Calls.{read_of, ReadCall}
-use Rattle.roster.proofs.Lines.{serials-of-lines}
-use Rattle.roster.proofs.Tells.{read-serials, read-roster}
-use Rattle.roster_answer.specs.Words.{foundLine, refusedLine}
-use Rattle.roster_answer.specs.Answer.{answerText}
-use Rattle.roster_answer.proofs.Told.{told-refused}
+use Rattle.roster.proofs.Lines.{serials_of_lines}
+use Rattle.roster.proofs.Tells.{read_serials, read_roster}
+use Rattle.roster_answer.specs.Words.{found_line, refused_line}
+use Rattle.roster_answer.specs.Answer.{answer_text}
+use Rattle.roster_answer.proofs.Told.{told_refused}
 
 module _ {text before after : List ℕ} {r : Reading} (call : ReadCall text before r after) where
   module _ (n : ℕ) (is : r ≡ Slots n) where
     done : ReadCall text before (Slots n) after
     done = subst (λ (r : Reading). ReadCall text before r after) is call
 
-    pub slots-within : n ≤ length after
-    slots-within = omega (arith, (read-roster done).1, length-serials text 0 (take n after), length-take n after)
+    pub slots_within : n ≤ length after
+    slots_within = omega (arith, (read_roster done).1, length_serials text 0 (take n after), length-take n after)
 
-    pub slots-found : (asked : List ℕ) → answerText text asked ≡ foundLine (lookUp (serials text (take n after)) asked)
-    unfolding answerText
-    slots-found asked = rw (← ap (λ (a : Answer). a.number) done.answer, read-serials done) (rw (serials-of-lines text))
+    pub slots_found : (asked : List ℕ) → answer_text text asked ≡ found_line (look_up (serials text (take n after)) asked)
+    unfolding answer_text
+    slots_found asked = rw (← ap (λ (a : Answer). a.number) done.answer, read_serials done) (rw (serials_of_lines text))
 
-  pub fault-told : (f : Fault) (line : ℕ) → r ≡ Refused f line → (asked : List ℕ) → answerText text asked ≡ refusedLine (number_of f) line
-  unfolding answerText
-  fault-told f line is asked = rw (sym call.answer ∙ ap read_of is) (told-refused (number_of f) (line ∷ []) _ (not-zero f))
+  pub fault_told : (f : Fault) (line : ℕ) → r ≡ Refused f line → (asked : List ℕ) → answer_text text asked ≡ refused_line (number_of f) line
+  unfolding answer_text
+  fault_told f line is asked = rw (sym call.answer ∙ ap read_of is) (told_refused (number_of f) (line ∷ []) _ (not_zero f))

@@ -11,13 +11,13 @@ use lib.Dec.{ltb}
 use lib.ListN.{length, take, drop, length-append}
 use lib.Seq.{sets, sets-eq, take_all, take_at, drop_at, drop-drop}
 use Rattle.base.specs.Choice.{choose}
-use Rattle.base.proofs.Tails.{tail, put-tail}
+use Rattle.base.proofs.Tails.{tail, put_tail}
 use Rattle.roster_answer.specs.Words.{digit, decimal}
 use Rattle.roster_answer.specs.Answer.{Begins}
 
-pub digits-most : (n : ℕ) → length (decimal n) ≤ 3
+pub digits_most : (n : ℕ) → length (decimal n) ≤ 3
 unfolding decimal
-digits-most n = go (ltb n 10) (ltb n 100)
+digits_most n = go (ltb n 10) (ltb n 100)
   where
     go : (a b : Bool)
         → length (choose a (digit n ∷ []) (choose b (digit (n / 10) ∷ digit n ∷ []) (digit (n / 100) ∷ digit (n / 10) ∷ digit n ∷ []))) ≤ 3
@@ -25,20 +25,20 @@ digits-most n = go (ltb n 10) (ltb n 100)
     go false true = omega arith
     go false false = omega arith
 
-pub begins-stored : {new : List ℕ} (values out : List ℕ) → new ≡ values → length values ≤ length out → Begins new out (length values) (sets out 0 values)
-begins-stored values out is fits =
+pub begins_stored : {new : List ℕ} (values out : List ℕ) → new ≡ values → length values ≤ length out → Begins new out (length values) (sets out 0 values)
+begins_stored values out is fits =
     record {
       count = ap length (sym is);
       output = rw (is, sets-eq values out 0 (omega arith)) (ap (λ (n : ℕ). values ++ drop n out) (zero-add (length values)));
     }
 
-pub begins-copied : (new : List ℕ) {out after : List ℕ} {r : ℕ} → r ≡ length new → after ≡ take (length new) new ++ drop (length new) out → Begins new out r after
-begins-copied new e is = record { count = e; output = rw (take_all (length new) new (omega arith)) at is }
+pub begins_copied : (new : List ℕ) {out after : List ℕ} {r : ℕ} → r ≡ length new → after ≡ take (length new) new ++ drop (length new) out → Begins new out r after
+begins_copied new e is = record { count = e; output = rw (take_all (length new) new (omega arith)) at is }
 
 -- new bytes that follow others, in the part of the buffer after those
-pub begins-then : {a b out mid part : List ℕ} {m n : ℕ} → Begins a out m mid → Begins b (take (length mid - m) (drop m mid)) n part
+pub begins_then : {a b out mid part : List ℕ} {m n : ℕ} → Begins a out m mid → Begins b (take (length mid - m) (drop m mid)) n part
     → Begins (a ++ b) out (m + n) (put_mid m (length mid - m) mid part)
-begins-then {a} {b} {out} {mid} {part} {m} {n} first next =
+begins_then {a} {b} {out} {mid} {part} {m} {n} first next =
     let front : take m mid ≡ a = ap (take m) first.output ∙ take_at a (drop (length a) out) m (sym first.count) in
     let rest : take (length mid - m) (drop m mid) ≡ drop (length a) out =
     tail m mid ∙ ap (drop m) first.output ∙ drop_at a (drop (length a) out) m (sym first.count)
@@ -46,10 +46,10 @@ begins-then {a} {b} {out} {mid} {part} {m} {n} first next =
     record {
       count = simp length-append (omega (arith, first.count, next.count));
       output =
-          put-tail m mid part
+          put_tail m mid part
           ∙ ap₂ ◌++◌ front (next.output ∙ ap (λ (l : List ℕ). b ++ drop (length b) l) rest)
           ∙ rw (drop-drop (length b) (length a) out, length-append a b) (sym (append_assoc a b (drop (length a + length b) out)));
     }
 
-pub numbered-most : (head : List ℕ) (n : ℕ) {out after : List ℕ} {r : ℕ} → Begins (head ++ decimal n) out r after → r ≤ length head + 3
-numbered-most head n call = omega (arith, call.count, length-append head (decimal n), digits-most n)
+pub numbered_most : (head : List ℕ) (n : ℕ) {out after : List ℕ} {r : ℕ} → Begins (head ++ decimal n) out r after → r ≤ length head + 3
+numbered_most head n call = omega (arith, call.count, length-append head (decimal n), digits_most n)

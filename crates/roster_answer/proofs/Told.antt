@@ -10,24 +10,24 @@ use Rattle.serials.specs.declared.Found.{Found}
 use Rattle.serials.specs.declared.Found.TheVariants.{Slot, Nowhere}
 use Rattle.lines.specs.declared.Fault.{Fault}
 use Rattle.lines.specs.Faults.{number_of}
-use Rattle.roster_answer.specs.Words.{decimal, reason, foundLine, refusedLine}
+use Rattle.roster_answer.specs.Words.{decimal, reason, found_line, refused_line}
 use Rattle.roster_answer.specs.Answer.{told, Begins}
 
 -- of a text that is refused, what is found doesn't matter
-pub told-refused : (k : ℕ) (values : List ℕ) (found : Found) → k ≢ 0 → told k values found ≡ refusedLine k (get_or values 0 0)
-told-refused zero values found n = absurd (n refl)
-told-refused (suc k) values found n = refl
+pub told_refused : (k : ℕ) (values : List ℕ) (found : Found) → k ≢ 0 → told k values found ≡ refused_line k (get_or values 0 0)
+told_refused zero values found n = absurd (n refl)
+told_refused (suc k) values found n = refl
 
 module _ {out after : List ℕ} {r : ℕ} where
-  pub told-slot : {found : Found} (k : ℕ) → found ≡ Slot k
-      → Begins ((bytes "slot " ++ decimal k) ++ bytes "\n") out r after → Begins (foundLine found) out r after
-  told-slot k e call = rw e (rw append_assoc at call)
+  pub told_slot : {found : Found} (k : ℕ) → found ≡ Slot k
+      → Begins ((bytes "slot " ++ decimal k) ++ bytes "\n") out r after → Begins (found_line found) out r after
+  told_slot k e call = rw e (rw append_assoc at call)
 
-  pub told_none : {found : Found} → found ≡ Nowhere → Begins (bytes "none\n") out r after → Begins (foundLine found) out r after
+  pub told_none : {found : Found} → found ≡ Nowhere → Begins (bytes "none\n") out r after → Begins (found_line found) out r after
   told_none e call = rw e call
 
-  pub told-fault : {fault : Fault} (f : Fault) (line : ℕ) → fault ≡ f
+  pub told_fault : {fault : Fault} (f : Fault) (line : ℕ) → fault ≡ f
       → Begins (((bytes "refused " ++ (decimal (number_of f) ++ bytes " line ")) ++ decimal line) ++ (bytes ": " ++ (bytes (reason (number_of f)) ++ bytes "\n")))
       out r after
-      → Begins (refusedLine (number_of fault) line) out r after
-  told-fault f line e call = rw e (simp append_assoc at call)
+      → Begins (refused_line (number_of fault) line) out r after
+  told_fault f line e call = rw e (simp append_assoc at call)

@@ -27,11 +27,11 @@ reason number =
     "more than 257 lines")))
 
 -- slots count from 0
-abbrev pub foundLine : Found → List ℕ
-foundLine (Slot k) = bytes "slot " ++ (decimal k ++ bytes "\n")
-foundLine Nowhere = bytes "none\n"
+abbrev pub found_line : Found → List ℕ
+found_line (Slot k) = bytes "slot " ++ (decimal k ++ bytes "\n")
+found_line Nowhere = bytes "none\n"
 
 -- lines count from 1
-abbrev pub refusedLine : ℕ → ℕ → List ℕ
-refusedLine number line =
+abbrev pub refused_line : ℕ → ℕ → List ℕ
+refused_line number line =
     bytes "refused " ++ (decimal number ++ (bytes " line " ++ (decimal line ++ (bytes ": " ++ (bytes (reason number) ++ bytes "\n")))))

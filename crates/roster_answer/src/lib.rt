@@ -1,8 +1,8 @@
 // What a fitter who asks for a serial is answered: a line with its slot, with none, or with why the roster's text is refused.
 ghost use Rattle.std.specs.Prelude.{◌≡◌, ◌+◌, ◌%◌, ◌≤◌, ◌++◌, length};
 ghost use Rattle.lines.specs.Faults.{number_of};
-ghost use Rattle.roster_answer.specs.Words.{digit, decimal, foundLine, refusedLine};
-ghost use Rattle.roster_answer.specs.Answer.{answerText, Begins};
+ghost use Rattle.roster_answer.specs.Words.{digit, decimal, found_line, refused_line};
+ghost use Rattle.roster_answer.specs.Answer.{answer_text, Begins};
 
 use lines::{Fault, MOST};
 use roster::Reading;
@@ -13,7 +13,7 @@ pub const ANSWER: usize = 73;
 
 // Answers whether the roster that a text holds has the asked serial. The output has room for every answer.
 pub fn answer(text: &[u8], asked: &[u8], out: &mut [u8; ANSWER]) -> usize
-    ensures { Begins (answerText text.now asked.now) out.old result out.new }
+    ensures { Begins (answer_text text.now asked.now) out.old result out.new }
 {
     let mut ends = [0usize; MOST];
     match roster::read(text, &mut ends) {
@@ -24,7 +24,7 @@ pub fn answer(text: &[u8], asked: &[u8], out: &mut [u8; ANSWER]) -> usize
 
 fn tell_found(found: Found, out: &mut [u8]) -> usize
     requires { 73 ≤ length out.old }
-    ensures { Begins (foundLine found) out.old result out.new }
+    ensures { Begins (found_line found) out.old result out.new }
 {
     match found {
         Found::Slot(slot) => tell(b"slot ", slot, b"\n", out),
@@ -34,7 +34,7 @@ fn tell_found(found: Found, out: &mut [u8]) -> usize
 
 fn tell_refused(fault: Fault, line: usize, out: &mut [u8]) -> usize
     requires { 73 ≤ length out.old }
-    ensures { Begins (refusedLine (number_of fault) line) out.old result out.new }
+    ensures { Begins (refused_line (number_of fault) line) out.old result out.new }
 {
     match fault {
         Fault::BadCharacter => tell(

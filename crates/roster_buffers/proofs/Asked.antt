@@ -11,26 +11,26 @@ use lib.Seq.{take_all}
 use Rattle.base.proofs.Choice.{below_or_not}
 use Rattle.serials.specs.declared.Found.TheVariants.{Nowhere}
 use Rattle.serials.specs.Serials.{serials}
-use Rattle.serials.specs.LookUp.{lookUp}
-use Rattle.roster.specs.Text.{lineEnds}
-use Rattle.roster.specs.Calls.{readAnswer}
-use Rattle.roster.proofs.Roster.{long-nowhere}
-use Rattle.roster.proofs.Tells.{accepted-roster}
-use Rattle.roster_answer.specs.Answer.{told, answerText}
-use Rattle.roster_buffers.specs.Kept.{askedSize}
-use Rattle.roster_answer.proofs.Told.{told-refused}
+use Rattle.serials.specs.LookUp.{look_up}
+use Rattle.roster.specs.Text.{line_ends}
+use Rattle.roster.specs.Calls.{read_answer}
+use Rattle.roster.proofs.Roster.{long_nowhere}
+use Rattle.roster.proofs.Tells.{accepted_roster}
+use Rattle.roster_answer.specs.Answer.{told, answer_text}
+use Rattle.roster_buffers.specs.Kept.{asked_size}
+use Rattle.roster_answer.proofs.Told.{told_refused}
 
-nowhere : (text asked : List ℕ) → (readAnswer text).number ≡ 0 → 20 < length asked → lookUp (serials text (lineEnds text)) asked ≡ Nowhere
-nowhere text asked e h = long-nowhere (accepted-roster text e) asked h
+nowhere : (text asked : List ℕ) → (read_answer text).number ≡ 0 → 20 < length asked → look_up (serials text (line_ends text)) asked ≡ Nowhere
+nowhere text asked e h = long_nowhere (accepted_roster text e) asked h
 
-pub asked-enough : (text asked : List ℕ) → answerText text asked ≡ answerText text (take askedSize asked)
-unfolding answerText
-asked-enough text asked =
-    ⊎_elim (λ h. longer h (ℕ_discrete (readAnswer text).number 0)) (λ h. rw (take_all askedSize asked h)) (below_or_not askedSize (length asked))
+pub asked_enough : (text asked : List ℕ) → answer_text text asked ≡ answer_text text (take asked_size asked)
+unfolding answer_text
+asked_enough text asked =
+    ⊎_elim (λ h. longer h (ℕ_discrete (read_answer text).number 0)) (λ h. rw (take_all asked_size asked h)) (below_or_not asked_size (length asked))
   where
-    longer : askedSize < length asked → Dec ((readAnswer text).number ≡ 0)
-        → told (readAnswer text).number (readAnswer text).values (lookUp (serials text (lineEnds text)) asked)
-        ≡ told (readAnswer text).number (readAnswer text).values (lookUp (serials text (lineEnds text)) (take askedSize asked))
-    longer h (yes e) = rw (nowhere text asked e (omega arith), nowhere text (take askedSize asked) e (omega (arith, length-take askedSize asked)))
+    longer : asked_size < length asked → Dec ((read_answer text).number ≡ 0)
+        → told (read_answer text).number (read_answer text).values (look_up (serials text (line_ends text)) asked)
+        ≡ told (read_answer text).number (read_answer text).values (look_up (serials text (line_ends text)) (take asked_size asked))
+    longer h (yes e) = rw (nowhere text asked e (omega arith), nowhere text (take asked_size asked) e (omega (arith, length-take asked_size asked)))
     longer h (no n) =
-        told-refused (readAnswer text).number (readAnswer text).values _ n ∙ sym (told-refused (readAnswer text).number (readAnswer text).values _ n)
+        told_refused (read_answer text).number (read_answer text).values _ n ∙ sym (told_refused (read_answer text).number (read_answer text).values _ n)

@@ -6,22 +6,22 @@ use Prim.Native.Nat.{ℕ, ◌-◌}
 use native.Mathlib.Nat.{sub-zero}
 use native.Mathlib.Omega.{arith}
 use lib.ListN.{length, take, length-append}
-use Rattle.roster_answer.specs.Answer.{answerText, Begins}
-use Rattle.roster_buffers.specs.Kept.{heldSize, askedSize, Holds, AnswerHeldCall}
-use Rattle.roster_buffers.proofs.Enough.{kept-answer}
-use Rattle.roster_buffers.proofs.Asked.{asked-enough}
+use Rattle.roster_answer.specs.Answer.{answer_text, Begins}
+use Rattle.roster_buffers.specs.Kept.{held_size, asked_size, Holds, AnswerHeldCall}
+use Rattle.roster_buffers.proofs.Enough.{kept_answer}
+use Rattle.roster_buffers.proofs.Asked.{asked_enough}
 
-pub parts-answered : {held asked before after t a : List ℕ} {n k r : ℕ} → (length held ≡ heldSize) × (length asked ≡ askedSize) → t ≡ take (n - 0) held
-    → a ≡ take (k - 0) asked → Begins (answerText t a) before r after → AnswerHeldCall held n asked k before r after
-parts-answered {n = n} {k} sizes text-is serial-is call =
+pub parts_answered : {held asked before after t a : List ℕ} {n k r : ℕ} → (length held ≡ held_size) × (length asked ≡ asked_size) → t ≡ take (n - 0) held
+    → a ≡ take (k - 0) asked → Begins (answer_text t a) before r after → AnswerHeldCall held n asked k before r after
+parts_answered {n = n} {k} sizes text_is serial_is call =
     record {
       sizes = sizes;
-      answer = rw (← rw (sub-zero n) at text-is, ← rw (sub-zero k) at serial-is) call;
+      answer = rw (← rw (sub-zero n) at text_is, ← rw (sub-zero k) at serial_is) call;
       within = omega (arith, call.count, simp length-append at (ap length call.output));
     }
 
 -- whichever text the held bytes are kept of, and whichever serial the asked bytes begin, that text and that serial are answered, whole
-pub held-answered : {held asked before after : List ℕ} {n k r : ℕ} → AnswerHeldCall held n asked k before r after → (text serial : List ℕ)
-    → Holds held n text → take k asked ≡ take askedSize serial → Begins (answerText text serial) before r after
-held-answered call text serial h is =
-    rw (asked-enough text serial ∙ sym (kept-answer text (take askedSize serial)) ∙ sym (ap₂ answerText h.bytes is)) call.answer
+pub held_answered : {held asked before after : List ℕ} {n k r : ℕ} → AnswerHeldCall held n asked k before r after → (text serial : List ℕ)
+    → Holds held n text → take k asked ≡ take asked_size serial → Begins (answer_text text serial) before r after
+held_answered call text serial h is =
+    rw (asked_enough text serial ∙ sym (kept_answer text (take asked_size serial)) ∙ sym (ap₂ answer_text h.bytes is)) call.answer

@@ -2,7 +2,7 @@
 // of the asked serial, and every answer.
 ghost use Rattle.std.specs.Prelude.{◌≡◌, ◌++◌, length, take};
 ghost use Rattle.roster_answer.specs.Answer.{Begins};
-ghost use Rattle.roster_buffers.specs.Kept.{keptSize, heldSize, kept, is_taken, Holds, AnswerHeldCall};
+ghost use Rattle.roster_buffers.specs.Kept.{kept_size, held_size, kept, is_taken, Holds, AnswerHeldCall};
 
 use roster_answer::ANSWER;
 
@@ -24,7 +24,7 @@ pub fn take_in(held: &mut [u8; HELD], count: usize, more: &[u8]) -> usize
 }
 
 fn take_all(held: &mut [u8], count: usize, more: &[u8]) -> usize
-    requires { length held.old ≡ heldSize }
+    requires { length held.old ≡ held_size }
     ensures { Begins (kept (take count held.old ++ more.now)) held.old result held.new }
 {
     let mut n = count_held(held, count);
@@ -42,7 +42,7 @@ fn take_all(held: &mut [u8], count: usize, more: &[u8]) -> usize
 
 // How many of the first `count` bytes are kept.
 fn count_held(held: &[u8], count: usize) -> usize
-    requires { length held.now ≡ heldSize }
+    requires { length held.now ≡ held_size }
     ensures { Holds held.now result (take count held.now) }
 {
     if count <= KEPT {
@@ -56,7 +56,7 @@ fn count_held(held: &[u8], count: usize) -> usize
 
 // Whether a byte is taken in after n others.
 fn is_taken(n: usize, c: u8) -> bool
-    ensures { result ≡ is_taken keptSize n c }
+    ensures { result ≡ is_taken kept_size n c }
 {
     if n < KEPT {
         return true;

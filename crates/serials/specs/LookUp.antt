@@ -11,14 +11,14 @@ alike [] (b ∷ t) = false
 alike (a ∷ s) [] = false
 alike (a ∷ s) (b ∷ t) = both (eqb a b) (alike s t)
 
-abbrev pub isFound : Found → Bool
-isFound (Slot k) = true
-isFound Nowhere = false
+abbrev pub is_found : Found → Bool
+is_found (Slot k) = true
+is_found Nowhere = false
 
 -- where the first serial is that of slot k
-unfoldable pub lookUpFrom : ℕ → List (List ℕ) → List ℕ → Found
-lookUpFrom k [] asked = Nowhere
-lookUpFrom k (s ∷ ss) asked = choose (alike s asked) (Slot k) (lookUpFrom (suc k) ss asked)
+unfoldable pub look_up_from : ℕ → List (List ℕ) → List ℕ → Found
+look_up_from k [] asked = Nowhere
+look_up_from k (s ∷ ss) asked = choose (alike s asked) (Slot k) (look_up_from (suc k) ss asked)
 
-abbrev pub lookUp : List (List ℕ) → List ℕ → Found
-lookUp ss asked = lookUpFrom 0 ss asked
+abbrev pub look_up : List (List ℕ) → List ℕ → Found
+look_up ss asked = look_up_from 0 ss asked

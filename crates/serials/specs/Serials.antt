@@ -4,9 +4,9 @@
 use Rattle.std.specs.Prelude.{ℕ, suc, ◌-◌, List, [], ◌∷◌, take, drop}
 
 -- those that begin at a place
-unfoldable pub serialsFrom : ℕ → List ℕ → List ℕ → List (List ℕ)
-serialsFrom start chars [] = []
-serialsFrom start chars (end ∷ ends) = take (end - start) (drop start chars) ∷ serialsFrom (suc end) chars ends
+unfoldable pub serials_from : ℕ → List ℕ → List ℕ → List (List ℕ)
+serials_from start chars [] = []
+serials_from start chars (end ∷ ends) = take (end - start) (drop start chars) ∷ serials_from (suc end) chars ends
 
 abbrev pub serials : List ℕ → List ℕ → List (List ℕ)
-serials chars ends = serialsFrom 0 chars ends
+serials chars ends = serials_from 0 chars ends

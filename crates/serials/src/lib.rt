@@ -2,7 +2,7 @@
 // the next begins one byte after it. Any bytes with any places are some serials.
 ghost use Rattle.std.specs.Prelude.{◌≡◌, ◌-◌, min, take, drop, get_or, []};
 ghost use Rattle.serials.specs.Serials.{serials};
-ghost use Rattle.serials.specs.LookUp.{alike, lookUp, isFound};
+ghost use Rattle.serials.specs.LookUp.{alike, look_up, is_found};
 
 #[derive(Drop)]
 pub enum Found {
@@ -11,7 +11,7 @@ pub enum Found {
 }
 
 pub fn is_found(f: Found) -> bool
-    ensures { result ≡ isFound f }
+    ensures { result ≡ is_found f }
 {
     match f {
         Found::Slot(_) => true,
@@ -21,7 +21,7 @@ pub fn is_found(f: Found) -> bool
 
 // The lowest slot whose serial has the asked length and the same byte at every place.
 pub fn find(chars: &[u8], ends: &[usize], asked: &[u8]) -> Found
-    ensures { result ≡ lookUp (serials chars.now ends.now) asked.now }
+    ensures { result ≡ look_up (serials chars.now ends.now) asked.now }
 {
     let mut slot = 0;
     while slot < ends.len() {

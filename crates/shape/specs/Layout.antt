@@ -13,12 +13,12 @@ unfoldable pub start : Geometry → ℕ → ℕ
 start g r = r * g.b
 
 -- the same of the low 32 bits of r and of B
-abbrev pub lowStart : Geometry → ℕ → ℕ
-lowStart g r = start (geometry g.n (g.b % 4294967296)) (r % 4294967296)
+abbrev pub low_start : Geometry → ℕ → ℕ
+low_start g r = start (geometry g.n (g.b % 4294967296)) (r % 4294967296)
 
 -- the place in the block of the role before that is the same as `at` in the block of a role, modulo 2^64
-abbrev pub placeBefore : Geometry → ℕ → ℕ
-placeBefore g at = (at + (18446744073709551616 - g.b)) % 18446744073709551616
+abbrev pub place_before : Geometry → ℕ → ℕ
+place_before g at = (at + (18446744073709551616 - g.b)) % 18446744073709551616
 
 -- the length of the whole stripe
 abbrev pub size : Geometry → ℕ
@@ -32,9 +32,9 @@ column g s i r = slice_index s (start g r + i)
 unfoldable pub role_at : Geometry → ℕ → ℕ
 role_at g j = j / g.b
 
-unfoldable pub columnAt : Geometry → ℕ → ℕ
-columnAt g j = j % g.b
+unfoldable pub column_at : Geometry → ℕ → ℕ
+column_at g j = j % g.b
 
 -- Every column i becomes f i of what it was.
 unfoldable pub lift : Geometry → (ℕ → Column → Column) → List ℕ → List ℕ
-lift g f s = tabulate (length s) (λ j. f (columnAt g j) (column g s (columnAt g j)) (role_at g j))
+lift g f s = tabulate (length s) (λ j. f (column_at g j) (column g s (column_at g j)) (role_at g j))

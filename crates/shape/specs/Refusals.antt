@@ -35,25 +35,25 @@ abbrev pub refusal7 : Geometry → ℕ → Refusal
 refusal7 g room = record { number = 7; applies = not (room == g.b) }
 
 -- ---- stretches that several orders share
-abbrev pub limitsRefusals : Limits → Geometry → List Refusal
-limitsRefusals limits g = refusal1 limits g ∷ refusal2 limits g ∷ []
+abbrev pub limits_refusals : Limits → Geometry → List Refusal
+limits_refusals limits g = refusal1 limits g ∷ refusal2 limits g ∷ []
 
-abbrev pub shapeRefusals : Limits → Geometry → ℕ → List Refusal
-shapeRefusals limits g len = refusal1 limits g ∷ refusal2 limits g ∷ refusal3 g len ∷ []
+abbrev pub shape_refusals : Limits → Geometry → ℕ → List Refusal
+shape_refusals limits g len = refusal1 limits g ∷ refusal2 limits g ∷ refusal3 g len ∷ []
 
-abbrev pub stretchRefusals : Geometry → ℕ → ℕ → ℕ → List Refusal
-stretchRefusals g disk offset count = refusal4 g disk ∷ refusal6 g offset count ∷ []
+abbrev pub stretch_refusals : Geometry → ℕ → ℕ → ℕ → List Refusal
+stretch_refusals g disk offset count = refusal4 g disk ∷ refusal6 g offset count ∷ []
 
 -- ---- the calls' orders
-abbrev pub encodeRefusal : Geometry → ℕ → ℕ
-encodeRefusal g len = first_of (refusal1 library g ∷ refusal2 library g ∷ refusal3 g len ∷ [])
+abbrev pub encode_refusal : Geometry → ℕ → ℕ
+encode_refusal g len = first_of (refusal1 library g ∷ refusal2 library g ∷ refusal3 g len ∷ [])
 
-abbrev pub writeRefusal : Geometry → ℕ → ℕ → ℕ → ℕ → ℕ
-writeRefusal g len disk offset count =
+abbrev pub write_refusal : Geometry → ℕ → ℕ → ℕ → ℕ → ℕ
+write_refusal g len disk offset count =
     first_of (refusal1 library g ∷ refusal2 library g ∷ refusal3 g len ∷ refusal4 g disk ∷ refusal6 g offset count ∷ [])
 
-abbrev pub checkRefusal : Geometry → ℕ → ℕ → ℕ
-checkRefusal g len room = first_of (refusal1 library g ∷ refusal2 library g ∷ refusal3 g len ∷ refusal7 g room ∷ [])
+abbrev pub check_refusal : Geometry → ℕ → ℕ → ℕ
+check_refusal g len room = first_of (refusal1 library g ∷ refusal2 library g ∷ refusal3 g len ∷ refusal7 g room ∷ [])
 
 -- ---- a stripe that meets what refusals 1 to 3 ask
 pub record WellShaped (g : Geometry) (s : List ℕ) : Type 0 where

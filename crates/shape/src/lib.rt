@@ -2,8 +2,8 @@
 // Every function takes any numbers.
 ghost use Rattle.std.specs.Prelude.{◌≡◌};
 ghost use Rattle.base.specs.Refusal.{first_of};
-ghost use Rattle.shape.specs.Layout.{lowStart, placeBefore};
-ghost use Rattle.shape.specs.Refusals.{library, limitsRefusals, shapeRefusals, stretchRefusals, encodeRefusal, writeRefusal, checkRefusal};
+ghost use Rattle.shape.specs.Layout.{low_start, place_before};
+ghost use Rattle.shape.specs.Refusals.{library, limits_refusals, shape_refusals, stretch_refusals, encode_refusal, write_refusal, check_refusal};
 
 // n data disks with blocks of b bytes, then P and Q.
 #[derive(Drop)]
@@ -23,7 +23,7 @@ impl Geometry {
     // Where the block of a role begins. It reads the low 32 bits of b and of the role, so that
     // the product fits; a stripe that the library takes has no others.
     pub fn start(self, role: usize) -> usize
-        ensures { result ≡ lowStart self role }
+        ensures { result ≡ low_start self role }
     {
         role % 4294967296 * (self.b % 4294967296)
     }
@@ -31,7 +31,7 @@ impl Geometry {
     // From a place in a block to the same place in the block of the role before: a loop over the
     // roles then needs no product. Modulo 2^64, so that any place may be given.
     pub fn role_before(self, at: usize) -> usize
-        ensures { result ≡ placeBefore self at }
+        ensures { result ≡ place_before self at }
     {
         std::num::wrapping_sub_usize(at, self.b)
     }
@@ -48,7 +48,7 @@ pub fn library_limits() -> Limits
 
 // 1 and 2.
 pub fn limits_refusal(limits: Limits, g: Geometry) -> u8
-    ensures { result ≡ first_of (limitsRefusals limits g) }
+    ensures { result ≡ first_of (limits_refusals limits g) }
 {
     if g.n == 0 {
         return 1;
@@ -67,7 +67,7 @@ pub fn limits_refusal(limits: Limits, g: Geometry) -> u8
 
 // 1, 2 and 3.
 pub fn shape_refusal(limits: Limits, g: Geometry, len: usize) -> u8
-    ensures { result ≡ first_of (shapeRefusals limits g len) }
+    ensures { result ≡ first_of (shape_refusals limits g len) }
 {
     let refused = limits_refusal(limits, g);
     if refused != 0 {
@@ -81,7 +81,7 @@ pub fn shape_refusal(limits: Limits, g: Geometry, len: usize) -> u8
 
 // 4 and 6.
 pub fn stretch_refusal(g: Geometry, disk: usize, offset: usize, count: usize) -> u8
-    ensures { result ≡ first_of (stretchRefusals g disk offset count) }
+    ensures { result ≡ first_of (stretch_refusals g disk offset count) }
 {
     if g.n <= disk {
         return 4;
@@ -101,13 +101,13 @@ pub fn stretch_refusal(g: Geometry, disk: usize, offset: usize, count: usize) ->
 // ---- the calls
 
 pub fn encode_refusal(g: Geometry, len: usize) -> u8
-    ensures { result ≡ encodeRefusal g len }
+    ensures { result ≡ encode_refusal g len }
 {
     shape_refusal(library_limits(), g, len)
 }
 
 pub fn write_refusal(g: Geometry, len: usize, disk: usize, offset: usize, count: usize) -> u8
-    ensures { result ≡ writeRefusal g len disk offset count }
+    ensures { result ≡ write_refusal g len disk offset count }
 {
     let refused = encode_refusal(g, len);
     if refused != 0 {
@@ -117,7 +117,7 @@ pub fn write_refusal(g: Geometry, len: usize, disk: usize, offset: usize, count:
 }
 
 pub fn check_refusal(g: Geometry, len: usize, room: usize) -> u8
-    ensures { result ≡ checkRefusal g len room }
+    ensures { result ≡ check_refusal g len room }
 {
     let refused = encode_refusal(g, len);
     if refused != 0 {

@@ -2,16 +2,16 @@
 use Rattle.std.specs.Prelude.{ℕ, ◌≡◌, List, eqb, length}
 use Rattle.base.specs.Choice.{choose}
 use Rattle.shape.specs.declared.Geometry.{Geometry}
-use Rattle.shape.specs.Refusals.{checkRefusal}
-use Rattle.compare.specs.Compare.{verdicts, afterCheck}
+use Rattle.shape.specs.Refusals.{check_refusal}
+use Rattle.compare.specs.Compare.{verdicts, after_check}
 use Rattle.verdict.specs.Summary.{summary}
 
 -- the summary's place after a check: as it was where the check is refused
-abbrev pub afterSummary : Geometry → List ℕ → List ℕ → ℕ → ℕ
-afterSummary g s room before = choose (eqb (checkRefusal g (length s) (length room)) 0) (summary (verdicts g s)) before
+abbrev pub after_summary : Geometry → List ℕ → List ℕ → ℕ → ℕ
+after_summary g s room before = choose (eqb (check_refusal g (length s) (length room)) 0) (summary (verdicts g s)) before
 
 -- the contract: the result r, the final verdicts and the final summary, each equal to its definition
-pub record ShelfCheckCall (g : Geometry) (s before : List ℕ) (summaryBefore r : ℕ) (after : List ℕ) (summaryAfter : ℕ) : Type 0 where
-  pub result : r ≡ checkRefusal g (length s) (length before)
-  pub room : after ≡ afterCheck g s before
-  pub found : summaryAfter ≡ afterSummary g s before summaryBefore
+pub record ShelfCheckCall (g : Geometry) (s before : List ℕ) (summary_before r : ℕ) (after : List ℕ) (summary_after : ℕ) : Type 0 where
+  pub result : r ≡ check_refusal g (length s) (length before)
+  pub room : after ≡ after_check g s before
+  pub found : summary_after ≡ after_summary g s before summary_before

@@ -1,14 +1,14 @@
 // A stretch of columns as a chunk: the bytes of one role in the w columns from i on.
 ghost use Rattle.std.specs.Prelude.{◌≡◌, ◌+◌, ◌-◌, min, ltb};
 ghost use Rattle.chunk.specs.Chunk.{each};
-ghost use Rattle.stretch.specs.Stretch.{hasColumns, columnOf, hasStretch, setOn};
+ghost use Rattle.stretch.specs.Stretch.{has_columns, column_of, has_stretch, set_on};
 
 use chunk::WIDTH;
 use shape::Geometry;
 
 // Whether a buffer of this length is a stripe with these columns, and a chunk can hold them.
 pub fn has_columns(g: Geometry, len: usize, i: usize, w: usize) -> bool
-    ensures { result ≡ hasColumns g len i w }
+    ensures { result ≡ has_columns g len i w }
 {
     if shape::encode_refusal(g, len) != 0 {
         return false;
@@ -44,7 +44,7 @@ pub fn next_start(b: usize, w: usize, done: usize) -> usize
 
 // The bytes of a role in these columns, with 00 behind them and for what the stripe has not.
 pub fn load(g: Geometry, stripe: &[u8], role: usize, i: usize, w: usize) -> [u8; WIDTH]
-    ensures { result ≡ each (λ j. columnOf g stripe.now i w j role) }
+    ensures { result ≡ each (λ j. column_of g stripe.now i w j role) }
 {
     if !has_stretch(g, stripe.len(), role, i, w) {
         return [0u8; WIDTH];
@@ -55,7 +55,7 @@ pub fn load(g: Geometry, stripe: &[u8], role: usize, i: usize, w: usize) -> [u8;
 
 // Sets them, if the stripe has them. Only the stretch is lent on, so that nothing around it can change.
 pub fn set(g: Geometry, stripe: &mut [u8], role: usize, i: usize, w: usize, new: [u8; WIDTH])
-    ensures { stripe.new ≡ setOn g role i w new stripe.old }
+    ensures { stripe.new ≡ set_on g role i w new stripe.old }
 {
     if !has_stretch(g, stripe.len(), role, i, w) {
         return;
@@ -65,7 +65,7 @@ pub fn set(g: Geometry, stripe: &mut [u8], role: usize, i: usize, w: usize, new:
 }
 
 fn has_stretch(g: Geometry, len: usize, role: usize, i: usize, w: usize) -> bool
-    ensures { result ≡ hasStretch g len role i w }
+    ensures { result ≡ has_stretch g len role i w }
 {
     has_columns(g, len, i, w) && has_role(g.n, role)
 }

@@ -12,70 +12,70 @@ use lib.Dec.{eqb, ltb}
 use lib.ListN.{get_or, replicate}
 use Rattle.base.specs.Choice.{choose}
 use Rattle.base.proofs.Choice.{both_true, below_or_not}
-use Rattle.base.proofs.Table.{tabulate-same}
-use Rattle.chunk.specs.Chunk.{width, each, plus, doublePlus}
-use Rattle.column.specs.Column.{Column, put, encodeColumn, reedSolomon}
+use Rattle.base.proofs.Table.{tabulate_same}
+use Rattle.chunk.specs.Chunk.{width, each, plus, double_plus}
+use Rattle.column.specs.Column.{Column, put, encode_column, reed_solomon}
 use Rattle.column.proofs.Put.{put_same, put_other}
-use Rattle.losses.proofs.Again.{put-over}
+use Rattle.losses.proofs.Again.{put_over}
 use Rattle.shape.specs.declared.Geometry.{Geometry}
 use Rattle.shape.specs.Layout.{column, lift}
 use Rattle.shape.specs.Refusals.{WellShaped}
 use Rattle.shape.specs.Columns.{ColumnsMapped}
-use Rattle.shape.proofs.Accepts.{shape-accepts}
-use Rattle.shape.proofs.Columns.{shaped-same}
-use Rattle.stretch.specs.Stretch.{Has, columnOf}
-use Rattle.stretch.proofs.Laws.{column-of}
-use Rattle.sums.specs.Sums.{tailP, tailQ, Tails, DisksAdded}
-use Rattle.sums.specs.Passes.{page, inPasses, paritiesSet, stage, Staged, Passed}
-use Rattle.sums.proofs.Horner.{at, tailP-all, tailQ-all}
+use Rattle.shape.proofs.Accepts.{shape_accepts}
+use Rattle.shape.proofs.Columns.{shaped_same}
+use Rattle.stretch.specs.Stretch.{Has, column_of}
+use Rattle.stretch.proofs.Laws.{column_of_lem}
+use Rattle.sums.specs.Sums.{tail_p, tail_q, Tails, DisksAdded}
+use Rattle.sums.specs.Passes.{page, in_passes, parities_set, stage, Staged, Passed}
+use Rattle.sums.proofs.Horner.{at, tail_p_all, tail_q_all}
 use Rattle.sums.proofs.Runs.{upper_added}
 
 -- what the tests say
-pub set-in-passes : (g : Geometry) (s : List ℕ) → WellShaped g s → inPasses g ≡ true → paritiesSet g s ≡ lift g (λ i c. encodeColumn reedSolomon g.n c) s
-set-in-passes g s shaped passes = rw (shape-accepts g s shaped, passes)
+pub set_in_passes : (g : Geometry) (s : List ℕ) → WellShaped g s → in_passes g ≡ true → parities_set g s ≡ lift g (λ i c. encode_column reed_solomon g.n c) s
+set_in_passes g s shaped passes = rw (shape_accepts g s shaped, passes)
 
-pub whole-pages : (g : Geometry) → inPasses g ≡ true → g.b % page ≡ 0
-whole-pages g passes = eqb-true (g.b % page) 0 (both_true (ltb 6 g.n) (eqb (g.b % page) 0) passes).1
+pub whole_pages : (g : Geometry) → in_passes g ≡ true → g.b % page ≡ 0
+whole_pages g passes = eqb-true (g.b % page) 0 (both_true (ltb 6 g.n) (eqb (g.b % page) 0) passes).1
 
 -- ---- the stages of a column: the first is the column, the last is encoded, and its P and Q alone are others
 module _ (n : ℕ) (c : Column) where
-  stage-none : stage n n c ≡ c
-  stage-none = rw (eq-eqb n n refl)
+  stage_none : stage n n c ≡ c
+  stage_none = rw (eq-eqb n n refl)
 
-  stage-some : {k : ℕ} → k < n → stage n k c ≡ put n (tailP n k c) (put (n + 1) (tailQ n k c) c)
-  stage-some {k} h = rw (ne_eqb k n (λ e. omega arith))
+  stage_some : {k : ℕ} → k < n → stage n k c ≡ put n (tail_p n k c) (put (n + 1) (tail_q n k c) c)
+  stage_some {k} h = rw (ne_eqb k n (λ e. omega arith))
 
-  stage-all : 0 < n → stage n 0 c ≡ encodeColumn reedSolomon n c
-  stage-all h = stage-some h ∙ ap₂ (λ (p q : ℕ). put n p (put (n + 1) q c)) (tailP-all n c) (tailQ-all n c)
+  stage_all : 0 < n → stage n 0 c ≡ encode_column reed_solomon n c
+  stage_all h = stage_some h ∙ ap₂ (λ (p q : ℕ). put n p (put (n + 1) q c)) (tail_p_all n c) (tail_q_all n c)
 
-  stage-p : {k : ℕ} → k < n → stage n k c n ≡ tailP n k c
-  stage-p {k} h = ap (λ (e : Column). e n) (stage-some h) ∙ put_same n (tailP n k c) (put (n + 1) (tailQ n k c) c)
+  stage_p_lem : {k : ℕ} → k < n → stage n k c n ≡ tail_p n k c
+  stage_p_lem {k} h = ap (λ (e : Column). e n) (stage_some h) ∙ put_same n (tail_p n k c) (put (n + 1) (tail_q n k c) c)
 
-  stage-q : {k : ℕ} → k < n → stage n k c (n + 1) ≡ tailQ n k c
-  stage-q {k} h = ap (λ (e : Column). e (n + 1)) (stage-some h) ∙ put_other n (tailP n k c) (put (n + 1) (tailQ n k c) c) (n + 1) (λ e. omega arith) ∙ put_same (n + 1) (tailQ n k c) c
+  stage_q_lem : {k : ℕ} → k < n → stage n k c (n + 1) ≡ tail_q n k c
+  stage_q_lem {k} h = ap (λ (e : Column). e (n + 1)) (stage_some h) ∙ put_other n (tail_p n k c) (put (n + 1) (tail_q n k c) c) (n + 1) (λ e. omega arith) ∙ put_same (n + 1) (tail_q n k c) c
 
-  stage-disk : {k : ℕ} → k < n → (m : ℕ) → m < n → stage n k c m ≡ c m
-  stage-disk {k} h m l = ap (λ (e : Column). e m) (stage-some h) ∙ put_other n (tailP n k c) (put (n + 1) (tailQ n k c) c) m (λ e. omega arith) ∙ put_other (n + 1) (tailQ n k c) c m (λ e. omega arith)
+  stage_disk : {k : ℕ} → k < n → (m : ℕ) → m < n → stage n k c m ≡ c m
+  stage_disk {k} h m l = ap (λ (e : Column). e m) (stage_some h) ∙ put_other n (tail_p n k c) (put (n + 1) (tail_q n k c) c) m (λ e. omega arith) ∙ put_other (n + 1) (tail_q n k c) c m (λ e. omega arith)
 
-  stage-over : (k v w : ℕ) → put n v (put (n + 1) w (stage n k c)) ≡ put n v (put (n + 1) w c)
-  stage-over k v w = go (eqb k n)
+  stage_over : (k v w : ℕ) → put n v (put (n + 1) w (stage n k c)) ≡ put n v (put (n + 1) w c)
+  stage_over k v w = go (eqb k n)
     where
-      go : (t : Bool) → put n v (put (n + 1) w (choose t c (put n (tailP n k c) (put (n + 1) (tailQ n k c) c)))) ≡ put n v (put (n + 1) w c)
+      go : (t : Bool) → put n v (put (n + 1) w (choose t c (put n (tail_p n k c) (put (n + 1) (tail_q n k c) c)))) ≡ put n v (put (n + 1) w c)
       go true = refl
-      go false = put-over n (n + 1) v w _ _ c
+      go false = put_over n (n + 1) v w _ _ c
 
 -- ---- passes
-pub passed-same : {g : Geometry} {i w k : ℕ} {s : List ℕ} → Passed g i w k k s s
-passed-same = record { kept = refl; within = λ f staged. staged; outside = λ c p q. refl }
+pub passed_same : {g : Geometry} {i w k : ℕ} {s : List ℕ} → Passed g i w k k s s
+passed_same = record { kept = refl; within = λ f staged. staged; outside = λ c p q. refl }
 
 module _ {g : Geometry} {i from to : ℕ} where
   pub passed_none : {s : List ℕ} → Passed g i 0 from to s s
   passed_none = record { kept = refl; within = λ f staged j p. absurd (not-suc-le-zero p); outside = λ c p q. refl }
 
   -- w columns, and then v more behind them
-  pub passed-more : {w v next : ℕ} {s t u : List ℕ} → next ≡ i + w → next + v ≤ g.b → Passed g i w from to s t → Passed g next v from to t u
+  pub passed_more : {w v next : ℕ} {s t u : List ℕ} → next ≡ i + w → next + v ≤ g.b → Passed g i w from to s t → Passed g next v from to t u
       → Passed g i (w + v) from to s u
-  passed-more {w} {v} {next} {s} {t} {u} behind-them fits first second =
+  passed_more {w} {v} {next} {s} {t} {u} behind_them fits first second =
       record {
         kept = second.kept ∙ first.kept;
         within = λ f staged j p. ⊎_elim (λ l. second.outside (i + j) (omega arith) (inl (omega arith)) ∙ first.within f (λ k m. staged k (omega arith)) j l) (λ l. behind f staged j p l) (below_or_not j w);
@@ -102,70 +102,70 @@ module _ {g : Geometry} {i from to : ℕ} where
         outside = λ c p q. second.outside c p q ∙ first.outside c p q;
       }
 
-pub passed-all : {g : Geometry} {i w : ℕ} {s t : List ℕ} → 0 < g.n → Passed g i w 0 g.n s t → ColumnsMapped g i w (λ j c. encodeColumn reedSolomon g.n c) s t
-passed-all {g} {i} {s = s} some passed =
+pub passed_all : {g : Geometry} {i w : ℕ} {s t : List ℕ} → 0 < g.n → Passed g i w 0 g.n s t → ColumnsMapped g i w (λ j c. encode_column reed_solomon g.n c) s t
+passed_all {g} {i} {s = s} some passed =
     record {
       kept = passed.kept;
-      within = λ j l. passed.within (λ k. column g s (i + k)) (λ k m. sym (stage-none g.n (column g s (i + k)))) j l ∙ stage-all g.n (column g s (i + j)) some;
+      within = λ j l. passed.within (λ k. column g s (i + k)) (λ k m. sym (stage_none g.n (column g s (i + k)))) j l ∙ stage_all g.n (column g s (i + j)) some;
       outside = passed.outside;
     }
 
 -- ---- the chunks of a page
 module _ {g : Geometry} {i from to m : ℕ} {s t : List ℕ} (fits : i + page ≤ g.b) (passed : Passed g i (width * m) from to s t) where
   -- the next one lies within the stripe
-  pub page-chunk : WellShaped g s → m < 32 → Has g t (i + width * m) width
-  page-chunk shaped left = record { shaped = shaped-same shaped passed.kept; fits = omega (arith, fits); held = omega arith }
+  pub page_chunk : WellShaped g s → m < 32 → Has g t (i + width * m) width
+  page_chunk shaped left = record { shaped = shaped_same shaped passed.kept; fits = omega (arith, fits); held = omega arith }
 
-  pub page-next : {u : List ℕ} → m < 32 → Passed g (i + width * m) width from to t u → Passed g i (width * (m + 1)) from to s u
-  page-next {u} left chunk = subst (λ (w : ℕ). Passed g i w from to s u) (omega arith) (passed-more refl (omega (arith, fits)) passed chunk)
+  pub page_next : {u : List ℕ} → m < 32 → Passed g (i + width * m) width from to t u → Passed g i (width * (m + 1)) from to s u
+  page_next {u} left chunk = subst (λ (w : ℕ). Passed g i w from to s u) (omega arith) (passed_more refl (omega (arith, fits)) passed chunk)
 
 -- ---- a chunk
 module _ {g : Geometry} {s : List ℕ} {i : ℕ} where
   -- P and Q put in each column, where they are the sums that the pass ends with
-  pub chunk-passed : {from to : ℕ} (p q : List ℕ) {t : List ℕ} → from < g.n → ((f : ℕ → Column) → Staged g i width to f s → Tails g.n from f p q)
+  pub chunk_passed : {from to : ℕ} (p q : List ℕ) {t : List ℕ} → from < g.n → ((f : ℕ → Column) → Staged g i width to f s → Tails g.n from f p q)
       → ColumnsMapped g i width (λ j c. put g.n (get_or p j 0) (put (g.n + 1) (get_or q j 0) c)) s t
       → Passed g i width from to s t
-  chunk-passed {from} {to} p q some sums mapped =
+  chunk_passed {from} {to} p q some sums mapped =
       let n = g.n in
       record {
         kept = mapped.kept;
         within = λ f staged j l.
             mapped.within j l
             ∙ ap (λ (c : Column). put n (get_or p j 0) (put (n + 1) (get_or q j 0) c)) (staged j l)
-            ∙ stage-over n (f j) to (get_or p j 0) (get_or q j 0)
+            ∙ stage_over n (f j) to (get_or p j 0) (get_or q j 0)
             ∙ ap₂ (λ (v w : ℕ). put n v (put (n + 1) w (f j))) (at _ (sums f staged).first j l) (at _ (sums f staged).second j l)
-            ∙ sym (stage-some n (f j) some);
+            ∙ sym (stage_some n (f j) some);
         outside = mapped.outside;
       }
 
   -- the highest disk, and the other disks of the first pass
-  pub chunk-begun : {from : ℕ} (d : List ℕ) {p q p' q' : List ℕ} → Has g s i width → from < g.n → d ≡ each (λ j. columnOf g s i width j (g.n - 1)) → ((j : ℕ) → get_or d j 0 < 256)
+  pub chunk_begun : {from : ℕ} (d : List ℕ) {p q p' q' : List ℕ} → Has g s i width → from < g.n → d ≡ each (λ j. column_of g s i width j (g.n - 1)) → ((j : ℕ) → get_or d j 0 < 256)
       → p ≡ plus (replicate width 0) d
-      → q ≡ doublePlus (replicate width 0) d
+      → q ≡ double_plus (replicate width 0) d
       → DisksAdded g i from (g.n - 1) s p q p' q'
       → (f : ℕ → Column)
       → Staged g i width g.n f s
       → Tails g.n from f p' q'
-  chunk-begun d h some is bytes is-p is-q added f staged =
-      let same : (j : ℕ) → j < width → column g s (i + j) ≡ f j = λ j l. staged j l ∙ stage-none g.n (f j) in
+  chunk_begun d h some is bytes is_p is_q added f staged =
+      let same : (j : ℕ) → j < width → column g s (i + j) ≡ f j = λ j l. staged j l ∙ stage_none g.n (f j) in
       upper_added g s i f d some (λ j k l low high. sym (ap (λ (e : Column). e k) (same j l)))
-      (is ∙ tabulate-same width (λ j l. ap (λ (e : Column). e (g.n - 1)) (column-of h j l ∙ same j l)))
+      (is ∙ tabulate_same width (λ j l. ap (λ (e : Column). e (g.n - 1)) (column_of_lem h j l ∙ same j l)))
       bytes
-      is-p
-      is-q
+      is_p
+      is_q
       added
 
   -- the sums that P and Q hold, and the disks of the pass added to them
-  pub chunk-carried : {from to : ℕ} {p q p' q' : List ℕ} → Has g s i width → to < g.n → p ≡ each (λ j. columnOf g s i width j g.n) → q ≡ each (λ j. columnOf g s i width j (g.n + 1))
+  pub chunk_carried : {from to : ℕ} {p q p' q' : List ℕ} → Has g s i width → to < g.n → p ≡ each (λ j. column_of g s i width j g.n) → q ≡ each (λ j. column_of g s i width j (g.n + 1))
       → DisksAdded g i from to s p q p' q'
       → (f : ℕ → Column)
       → Staged g i width to f s
       → Tails g.n from f p' q'
-  chunk-carried h below is-p is-q added f staged =
+  chunk_carried h below is_p is_q added f staged =
       let n = g.n in
-      let there : (r j : ℕ) → j < width → columnOf g s i width j r ≡ stage n _ (f j) r = λ r j l. ap (λ (e : Column). e r) (column-of h j l ∙ staged j l) in
-      added f (λ j k l low high. sym (ap (λ (e : Column). e k) (staged j l) ∙ stage-disk n (f j) below k (omega arith)))
+      let there : (r j : ℕ) → j < width → column_of g s i width j r ≡ stage n _ (f j) r = λ r j l. ap (λ (e : Column). e r) (column_of_lem h j l ∙ staged j l) in
+      added f (λ j k l low high. sym (ap (λ (e : Column). e k) (staged j l) ∙ stage_disk n (f j) below k (omega arith)))
       (record {
-        first = is-p ∙ tabulate-same width (λ j l. there n j l ∙ stage-p n (f j) below);
-        second = is-q ∙ tabulate-same width (λ j l. there (n + 1) j l ∙ stage-q n (f j) below);
+        first = is_p ∙ tabulate_same width (λ j l. there n j l ∙ stage_p_lem n (f j) below);
+        second = is_q ∙ tabulate_same width (λ j l. there (n + 1) j l ∙ stage_q_lem n (f j) below);
       })

@@ -9,76 +9,76 @@ use Prim.Native.Nat.{ℕ, suc, ◌+◌, ◌-◌, ◌≤◌, ◌<◌}
 use native.Mathlib.Omega.{arith}
 use borrow.Author.Tests.{le-ltb, lt-leb}
 use lib.ListN.{length, get_or, take, drop, replicate}
-use Rattle.base.proofs.Table.{tabulate-same}
-use Rattle.chunk.specs.Chunk.{width, each, plus, doublePlus}
+use Rattle.base.proofs.Table.{tabulate_same}
+use Rattle.chunk.specs.Chunk.{width, each, plus, double_plus}
 use Rattle.column.specs.Column.{Column}
 use Rattle.losses.specs.Losses.{without}
-use Rattle.losses.proofs.Without.{without_other, without-lost}
+use Rattle.losses.proofs.Without.{without_other, without_lost}
 use Rattle.shape.specs.declared.Geometry.{Geometry}
-use Rattle.shape.specs.Layout.{start, lowStart, placeBefore, column}
-use Rattle.shape.proofs.Stretch.{block_start, before-start, stretch-inside, part_at}
-use Rattle.stretch.specs.Stretch.{Has, columnOf}
-use Rattle.stretch.proofs.Laws.{column-of}
+use Rattle.shape.specs.Layout.{start, low_start, place_before, column}
+use Rattle.shape.proofs.Stretch.{block_start, before_start, stretch_inside, part_at}
+use Rattle.stretch.specs.Stretch.{Has, column_of}
+use Rattle.stretch.proofs.Laws.{column_of_lem}
 use Rattle.sums.specs.Sums.{Tails, Agrees, DisksAdded, AddedAbove}
 use Rattle.sums.specs.Strip.{outside, AddedWithin}
-use Rattle.sums.proofs.Horner.{tails-none, tails-more}
+use Rattle.sums.proofs.Horner.{tails_none, tails_more}
 
 -- where the columns of a disk stand
-pub placed : {g : Geometry} {s : List ℕ} {i : ℕ} → Has g s i width → (k : ℕ) {p : ℕ} → k ≤ g.n → p ≡ lowStart g k → p + i ≡ start g k + i
+pub placed : {g : Geometry} {s : List ℕ} {i : ℕ} → Has g s i width → (k : ℕ) {p : ℕ} → k ≤ g.n → p ≡ low_start g k → p + i ≡ start g k + i
 placed {g} {s} {i} has k h is = ap (λ (p : ℕ). p + i) (block_start g s k has.shaped (omega arith) is)
 
 -- they lie within the stripe
 pub inside : {g : Geometry} {s : List ℕ} {i : ℕ} → Has g s i width → (k : ℕ) {at : ℕ} → k ≤ g.n → at ≡ start g k + i → at + width ≤ length s
 inside {g} {s} {i} has k h is =
-    let within = stretch-inside g s k i width has.shaped (omega arith) has.fits in
+    let within = stretch_inside g s k i width has.shaped (omega arith) has.fits in
     omega arith
 
 -- and where those of the disk below disk m do
 pub below : {g : Geometry} {s : List ℕ} {i : ℕ} → Has g s i width → length s < 18446744073709551616 → (k : ℕ) {m at r : ℕ} → m ≡ suc k → m ≤ g.n
     → at ≡ start g m + i
-    → r ≡ placeBefore g at
+    → r ≡ place_before g at
     → r ≡ start g k + i
 below {g} {s} {i} has small k {m} next h is moved =
     let within = inside has m h is in
-    moved ∙ before-start g k i (omega (arith, has.shaped.block)) (omega arith) (is ∙ ap (λ (k : ℕ). start g k + i) next)
+    moved ∙ before_start g k i (omega (arith, has.shaped.block)) (omega arith) (is ∙ ap (λ (k : ℕ). start g k + i) next)
 
 -- one disk more, read as d from its place in the stripe
-pub disk-added : (g : Geometry) (s : List ℕ) (i : ℕ) {to k m at : ℕ} {p q p₁ q₁ p₂ q₂ : List ℕ} (d : List ℕ) → m ≡ suc k → m ≤ to → to ≤ g.n
+pub disk_added : (g : Geometry) (s : List ℕ) (i : ℕ) {to k m at : ℕ} {p q p₁ q₁ p₂ q₂ : List ℕ} (d : List ℕ) → m ≡ suc k → m ≤ to → to ≤ g.n
     → DisksAdded g i m to s p q p₁ q₁
     → at ≡ start g k + i
     → d ≡ each (λ j. get_or (take (at + width - at) (drop at s)) j 0)
     → ((j : ℕ) → get_or d j 0 < 256)
     → p₂ ≡ plus p₁ d
-    → q₂ ≡ doublePlus q₁ d
+    → q₂ ≡ double_plus q₁ d
     → DisksAdded g i k to s p q p₂ q₂
-disk-added g s i {k = k} d next h most added place is bytes is-p is-q f agrees tails =
-    tails-more g.n f d next (omega arith) (added f (λ j m l low high. agrees j m l (omega arith) high) tails)
+disk_added g s i {k = k} d next h most added place is bytes is_p is_q f agrees tails =
+    tails_more g.n f d next (omega arith) (added f (λ j m l low high. agrees j m l (omega arith) high) tails)
     (is
-    ∙ tabulate-same width
+    ∙ tabulate_same width
     (λ j l.
     ap (λ (p : ℕ). get_or (take (p + width - p) (drop p s)) j 0) place
     ∙ part_at g s k i width refl j l
     ∙ sym (agrees j k l (omega arith) (omega arith))))
     bytes
-    is-p
-    is-q
+    is_p
+    is_q
 
 -- the highest disk, and those below it down to `from`
 pub upper_added : (g : Geometry) (s : List ℕ) (i : ℕ) {from : ℕ} (f : ℕ → Column) (d : List ℕ) {p q p' q' : List ℕ} → from < g.n → Agrees g i from g.n s f → d ≡ each (λ j. f j (g.n - 1))
     → ((j : ℕ) → get_or d j 0 < 256)
     → p ≡ plus (replicate width 0) d
-    → q ≡ doublePlus (replicate width 0) d
+    → q ≡ double_plus (replicate width 0) d
     → DisksAdded g i from (g.n - 1) s p q p' q'
     → Tails g.n from f p' q'
-upper_added g s i f d h agrees highest bytes is-p is-q below =
-    below f (λ j k l low high. agrees j k l low (omega arith)) (tails-more g.n f d (omega arith) (omega arith) (tails-none g.n f) highest bytes is-p is-q)
+upper_added g s i f d h agrees highest bytes is_p is_q below =
+    below f (λ j k l low high. agrees j k l low (omega arith)) (tails_more g.n f d (omega arith) (omega arith) (tails_none g.n f) highest bytes is_p is_q)
 
-pub all-added : {g : Geometry} {s : List ℕ} {i : ℕ} (d : List ℕ) {p q p' q' : List ℕ} → Has g s i width → d ≡ each (λ j. columnOf g s i width j (g.n - 1)) → ((j : ℕ) → get_or d j 0 < 256)
+pub all_added : {g : Geometry} {s : List ℕ} {i : ℕ} (d : List ℕ) {p q p' q' : List ℕ} → Has g s i width → d ≡ each (λ j. column_of g s i width j (g.n - 1)) → ((j : ℕ) → get_or d j 0 < 256)
     → p ≡ plus (replicate width 0) d
-    → q ≡ doublePlus (replicate width 0) d
+    → q ≡ double_plus (replicate width 0) d
     → DisksAdded g i 0 (g.n - 1) s p q p' q'
-    → Tails g.n 0 (columnOf g s i width) p' q'
-all-added {g} {s} {i} d h = upper_added g s i (columnOf g s i width) d h.shaped.disk (λ j k l low high. ap (λ (e : Column). e k) (column-of h j l))
+    → Tails g.n 0 (column_of g s i width) p' q'
+all_added {g} {s} {i} d h = upper_added g s i (column_of g s i width) d h.shaped.disk (λ j k l low high. ap (λ (e : Column). e k) (column_of_lem h j l))
 
 -- among all disks a lost one lies above none
 pub within_all : {g : Geometry} {i lost to : ℕ} {s p q : List ℕ} {r : ℕ} {p' q' : List ℕ} → AddedAbove g i lost to s p q r p' q' → AddedWithin g i lost 0 to s p q r p' q'
@@ -91,19 +91,19 @@ within_all above =
     }
 
 -- the byte of a role that is not lost
-not-lost : {g : Geometry} {s : List ℕ} {i : ℕ} → Has g s i width → (x y : ℕ) {j k : ℕ} → j < width → (k ≡ x → ⊥) → (k ≡ y → ⊥) → without x y (columnOf g s i width j) k ≡ column g s (i + j) k
-not-lost {g} {s} {i} h x y {j} {k} l not-x not-y = without_other x y (columnOf g s i width j) k not-x not-y ∙ ap (λ (r : Column). r k) (column-of h j l)
+not_lost : {g : Geometry} {s : List ℕ} {i : ℕ} → Has g s i width → (x y : ℕ) {j k : ℕ} → j < width → (k ≡ x → ⊥) → (k ≡ y → ⊥) → without x y (column_of g s i width j) k ≡ column g s (i + j) k
+not_lost {g} {s} {i} h x y {j} {k} l not_x not_y = without_other x y (column_of g s i width j) k not_x not_y ∙ ap (λ (r : Column). r k) (column_of_lem h j l)
 
 -- a group without a lost disk is one run
-is-other : {x from to k : ℕ} → outside x from to ≡ true → from ≤ k → k < to → k ≡ x → ⊥
-is-other {x} {from} {to} out low high e = true≢false (sym out ∙ simp (le-ltb x from (omega arith), lt-leb to x (omega arith)))
+is_other : {x from to k : ℕ} → outside x from to ≡ true → from ≤ k → k < to → k ≡ x → ⊥
+is_other {x} {from} {to} out low high e = true≢false (sym out ∙ simp (le-ltb x from (omega arith), lt-leb to x (omega arith)))
 
-pub plain-added : {g : Geometry} {s : List ℕ} {i : ℕ} (x y : ℕ) {from to : ℕ} {p q p' q' : List ℕ} → Has g s i width → outside x from to ≡ true → outside y from to ≡ true
+pub plain_added : {g : Geometry} {s : List ℕ} {i : ℕ} (x y : ℕ) {from to : ℕ} {p q p' q' : List ℕ} → Has g s i width → outside x from to ≡ true → outside y from to ≡ true
     → DisksAdded g i from to s p q p' q'
-    → Tails g.n to (λ j. without x y (columnOf g s i width j)) p q
-    → Tails g.n from (λ j. without x y (columnOf g s i width j)) p' q'
-plain-added {g} {s} {i} x y h not-x not-y run =
-    run (λ j. without x y (columnOf g s i width j)) λ j k l low high. not-lost h x y l (is-other not-x low high) (is-other not-y low high)
+    → Tails g.n to (λ j. without x y (column_of g s i width j)) p q
+    → Tails g.n from (λ j. without x y (column_of g s i width j)) p' q'
+plain_added {g} {s} {i} x y h not_x not_y run =
+    run (λ j. without x y (column_of g s i width j)) λ j k l low high. not_lost h x y l (is_other not_x low high) (is_other not_y low high)
 
 -- the lower and the higher of x and y
 abbrev Lower : ℕ → ℕ → ℕ → Type 0
@@ -113,22 +113,22 @@ abbrev Higher : ℕ → ℕ → ℕ → Type 0
 Higher x y high = (x ≤ high) × (y ≤ high) × ((high ≡ x) ⊎ (high ≡ y))
 
 neither : {x y low high k : ℕ} → Lower x y low → Higher x y high → (k ≡ low → ⊥) → (k ≡ high → ⊥) → (k ≡ x → ⊥) × (k ≡ y → ⊥)
-neither l h not_low not-high = (
-  λ e. ⊎_elim (λ p. not_low (omega arith)) (λ p. ⊎_elim (λ q. not-high (omega arith)) (λ q. not_low (omega arith)) h.2) l.2,
-  λ e. ⊎_elim (λ p. ⊎_elim (λ q. not_low (omega arith)) (λ q. not-high (omega arith)) h.2) (λ p. not_low (omega arith)) l.2,
+neither l h not_low not_high = (
+  λ e. ⊎_elim (λ p. not_low (omega arith)) (λ p. ⊎_elim (λ q. not_high (omega arith)) (λ q. not_low (omega arith)) h.2) l.2,
+  λ e. ⊎_elim (λ p. ⊎_elim (λ q. not_low (omega arith)) (λ q. not_high (omega arith)) h.2) (λ p. not_low (omega arith)) l.2,
 )
 
-pub runs-added : {g : Geometry} {s : List ℕ} {i : ℕ} (x y : ℕ) {low high from to k m : ℕ} {p q p₁ q₁ p₂ q₂ p₃ q₃ : List ℕ} → Has g s i width → Lower x y low → Higher x y high
+pub runs_added : {g : Geometry} {s : List ℕ} {i : ℕ} (x y : ℕ) {low high from to k m : ℕ} {p q p₁ q₁ p₂ q₂ p₃ q₃ : List ℕ} → Has g s i width → Lower x y low → Higher x y high
     → AddedWithin g i high from to s p q k p₁ q₁
     → AddedWithin g i low from k s p₁ q₁ m p₂ q₂
     → DisksAdded g i from m s p₂ q₂ p₃ q₃
-    → Tails g.n to (λ j. without x y (columnOf g s i width j)) p q
-    → Tails g.n from (λ j. without x y (columnOf g s i width j)) p₃ q₃
-runs-added {g} {s} {i} x y {low} {high} h lower higher above between below tails =
-    let e = columnOf g s i width in
+    → Tails g.n to (λ j. without x y (column_of g s i width j)) p q
+    → Tails g.n from (λ j. without x y (column_of g s i width j)) p₃ q₃
+runs_added {g} {s} {i} x y {low} {high} h lower higher above between below tails =
+    let e = column_of g s i width in
     let f : ℕ → Column = λ j. without x y (e j) in
-    let other : (j k : ℕ) → j < width → (k ≡ low → ⊥) → (k ≡ high → ⊥) → f j k ≡ column g s (i + j) k = λ j k l not_low not-high. let kept = neither lower higher not_low not-high in not-lost h x y l kept.0 kept.1 in
+    let other : (j k : ℕ) → j < width → (k ≡ low → ⊥) → (k ≡ high → ⊥) → f j k ≡ column g s (i + j) k = λ j k l not_low not_high. let kept = neither lower higher not_low not_high in not_lost h x y l kept.0 kept.1 in
     below f
     (λ j k l from to. other j k l (λ e. ⊎_elim (λ p. omega arith) (λ p. omega arith) between.below) (λ e. ⊎_elim (λ p. omega arith) (λ p. omega (arith, between.within)) above.below))
-    (between.sums f (λ j k l from past to. other j k l (omega arith) (λ e. ⊎_elim (λ p. omega arith) (λ p. omega arith) above.below)) (λ j l. without-lost x y (e j) low lower.2)
-    (above.sums f (λ j k l from past to. other j k l (omega (arith, lower, higher)) (omega arith)) (λ j l. without-lost x y (e j) high higher.2) tails))
+    (between.sums f (λ j k l from past to. other j k l (omega arith) (λ e. ⊎_elim (λ p. omega arith) (λ p. omega arith) above.below)) (λ j l. without_lost x y (e j) low lower.2)
+    (above.sums f (λ j k l from past to. other j k l (omega (arith, lower, higher)) (omega arith)) (λ j l. without_lost x y (e j) high higher.2) tails))

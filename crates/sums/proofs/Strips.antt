@@ -10,9 +10,9 @@ use lib.Dec.{eqb, ltb, leb}
 use lib.ListN.{length, get_or, take, drop, replicate}
 use Rattle.base.specs.Table.{tabulate}
 use Rattle.base.proofs.Choice.{both_true}
-use Rattle.base.proofs.Fill.{Filled, fill-part}
-use Rattle.base.proofs.Tails.{part_length, part-place}
-use Rattle.base.proofs.Table.{length-tabulate, get_d_tabulate, tabulate-same}
+use Rattle.base.proofs.Fill.{Filled, fill_part}
+use Rattle.base.proofs.Tails.{part_length, part_place}
+use Rattle.base.proofs.Table.{length_tabulate, get_d_tabulate, tabulate_same}
 use Rattle.gf256.specs.Field.{product, power}
 use Rattle.chunk.specs.Chunk.{width, each, stored, plus, Holds}
 use Rattle.chunk.proofs.Laws.{stored_short, each_at}
@@ -20,89 +20,89 @@ use Rattle.column.specs.Column.{Column}
 use Rattle.losses.specs.Losses.{without}
 use Rattle.shape.specs.declared.Geometry.{Geometry}
 use Rattle.shape.specs.Layout.{column}
-use Rattle.shape.specs.Refusals.{encodeRefusal}
-use Rattle.shape.proofs.Accepts.{shape-accepts}
-use Rattle.shape.proofs.Refused.{well-shaped}
-use Rattle.stretch.specs.Stretch.{Has, columnOf}
-use Rattle.stretch.proofs.Laws.{column-of}
+use Rattle.shape.specs.Refusals.{encode_refusal}
+use Rattle.shape.proofs.Accepts.{shape_accepts}
+use Rattle.shape.proofs.Refused.{well_shaped}
+use Rattle.stretch.specs.Stretch.{Has, column_of}
+use Rattle.stretch.proofs.Laws.{column_of_lem}
 use Rattle.sums.specs.declared.Sums.{Sums}
 use Rattle.sums.specs.Sums.{Tails}
-use Rattle.sums.specs.Strip.{strip, inStrips, hasStrip, HasStrip, stripColumn, overStrip, Stage}
-use Rattle.sums.proofs.Horner.{tail_none, tails-stored}
+use Rattle.sums.specs.Strip.{strip, in_strips, has_strip, HasStrip, strip_column, over_strip, Stage}
+use Rattle.sums.proofs.Horner.{tail_none, tails_stored}
 
 -- what the tests say
-pub strip-fits : (g : Geometry) → inStrips g ≡ true → strip ≤ g.b
-strip-fits g e = leb-true strip g.b (both_true (ltb 64 g.n) (leb strip g.b) e).1
+pub strip_fits : (g : Geometry) → in_strips g ≡ true → strip ≤ g.b
+strip_fits g e = leb-true strip g.b (both_true (ltb 64 g.n) (leb strip g.b) e).1
 
-pub has-strip : (g : Geometry) (s : List ℕ) (i : ℕ) → hasStrip g (length s) i ≡ true → HasStrip g s i
-has-strip g s i e =
-    let shape = both_true (eqb (encodeRefusal g (length s)) 0) _ e in
+pub has_strip_lem : (g : Geometry) (s : List ℕ) (i : ℕ) → has_strip g (length s) i ≡ true → HasStrip g s i
+has_strip_lem g s i e =
+    let shape = both_true (eqb (encode_refusal g (length s)) 0) _ e in
     let long = both_true (leb strip g.b) (leb i (g.b - strip)) shape.1 in
     let low = leb-true strip g.b long.0 in
     let high = leb-true i (g.b - strip) long.1 in
-    record { shaped = well-shaped g s (eqb-true (encodeRefusal g (length s)) 0 shape.0); fits = omega arith }
+    record { shaped = well_shaped g s (eqb-true (encode_refusal g (length s)) 0 shape.0); fits = omega arith }
 
-pub has-strip-true : {g : Geometry} {s : List ℕ} {i : ℕ} → HasStrip g s i → hasStrip g (length s) i ≡ true
-has-strip-true {g} {s} {i} h =
+pub has_strip_true : {g : Geometry} {s : List ℕ} {i : ℕ} → HasStrip g s i → has_strip g (length s) i ≡ true
+has_strip_true {g} {s} {i} h =
     let fits = h.fits in
-    simp (shape-accepts g s h.shaped, le-leb strip g.b (omega arith), le-leb i (g.b - strip) (omega arith))
+    simp (shape_accepts g s h.shaped, le-leb strip g.b (omega arith), le-leb i (g.b - strip) (omega arith))
 
 -- what is worked out of each column of a strip has its length
-pub strip-length : {g : Geometry} {s : List ℕ} {i : ℕ} → HasStrip g s i → (x y : ℕ) (f : Column → ℕ) (before : List ℕ) {l : List ℕ} → l ≡ overStrip g s i x y f before → length l ≡ strip
-strip-length {g} {s} {i} h x y f before is = ap length (rw (has-strip-true h) at is) ∙ length-tabulate strip (λ j. f (stripColumn g s i x y j))
+pub strip_length : {g : Geometry} {s : List ℕ} {i : ℕ} → HasStrip g s i → (x y : ℕ) (f : Column → ℕ) (before : List ℕ) {l : List ℕ} → l ≡ over_strip g s i x y f before → length l ≡ strip
+strip_length {g} {s} {i} h x y f before is = ap length (rw (has_strip_true h) at is) ∙ length_tabulate strip (λ j. f (strip_column g s i x y j))
 
-strip-zeros : replicate strip 0 ≡ tabulate strip (λ j. 0)
+strip_zeros : replicate strip 0 ≡ tabulate strip (λ j. 0)
 unfolding tabulate
-strip-zeros = refl
+strip_zeros = refl
 
 module _ (n : ℕ) (f : ℕ → Column) where
   -- before the first group
-  pub stage-none : 0 < n → Stage strip n n f (replicate strip 0) (replicate strip 0)
-  stage-none some =
+  pub stage_none : 0 < n → Stage strip n n f (replicate strip 0) (replicate strip 0)
+  stage_none some =
       record {
-        first = strip-zeros ∙ tabulate-same strip (λ j l. sym (rw (ne_eqb n 0 (omega arith)) (tail_none (λ i x. x) n (f j))));
-        second = strip-zeros ∙ tabulate-same strip (λ j l. sym (rw (ne_eqb n 0 (omega arith)) (tail_none (λ i x. product (power 2 i) x) n (f j))));
+        first = strip_zeros ∙ tabulate_same strip (λ j l. sym (rw (ne_eqb n 0 (omega arith)) (tail_none (λ i x. x) n (f j))));
+        second = strip_zeros ∙ tabulate_same strip (λ j l. sym (rw (ne_eqb n 0 (omega arith)) (tail_none (λ i x. product (power 2 i) x) n (f j))));
       }
 
   -- a group that is not the last, and the last
-  pub stage-some : {k : ℕ} {p q : List ℕ} → (k ≡ 0 → ⊥) → Tails n k f p q → Stage width n k f p q
-  stage-some {k} some tails = record { first = rw (ne_eqb k 0 some) tails.first; second = rw (ne_eqb k 0 some) tails.second }
+  pub stage_some : {k : ℕ} {p q : List ℕ} → (k ≡ 0 → ⊥) → Tails n k f p q → Stage width n k f p q
+  stage_some {k} some tails = record { first = rw (ne_eqb k 0 some) tails.first; second = rw (ne_eqb k 0 some) tails.second }
 
-  pub stage-stored : {k : ℕ} {p q d e p' q' : List ℕ} → k ≡ 0 → Tails n k f p q → d ≡ each (λ j. f j n) → e ≡ each (λ j. f j (n + 1)) → p' ≡ plus p d → q' ≡ plus q e
+  pub stage_stored : {k : ℕ} {p q d e p' q' : List ℕ} → k ≡ 0 → Tails n k f p q → d ≡ each (λ j. f j n) → e ≡ each (λ j. f j (n + 1)) → p' ≡ plus p d → q' ≡ plus q e
       → Stage width n k f p' q'
-  stage-stored last tails is-d is-e is-p is-q =
-      let sums = tails-stored n f (rw last at tails) is-d is-e is-p is-q in
+  stage_stored last tails is_d is_e is_p is_q =
+      let sums = tails_stored n f (rw last at tails) is_d is_e is_p is_q in
       rw last record { first = ap (λ (r : Sums). r.p) sums; second = ap (λ (r : Sums). r.q) sums }
 
 -- ---- a chunk of a strip that is filled up to it, from the place c on
 module _ {p₀ p : List ℕ} {c : ℕ} {new : ℕ → ℕ} (fill : Filled (λ j v. new j) strip p₀ p c) (fits : c + width ≤ strip) where
-  chunk-length : length (take (c + width - c) (drop c p)) ≡ width
-  chunk-length = part_length p c (c + width) (omega arith) (omega (arith, fill.long)) ∙ omega arith
+  chunk_length : length (take (c + width - c) (drop c p)) ≡ width
+  chunk_length = part_length p c (c + width) (omega arith) (omega (arith, fill.long)) ∙ omega arith
 
   -- it holds what the strip held
-  pub chunk-loaded : (old : ℕ → ℕ) {a : List ℕ} (v : ℕ → ℕ) → p₀ ≡ tabulate strip old → a ≡ each (λ j. get_or (take (c + width - c) (drop c p)) j 0)
+  pub chunk_loaded : (old : ℕ → ℕ) {a : List ℕ} (v : ℕ → ℕ) → p₀ ≡ tabulate strip old → a ≡ each (λ j. get_or (take (c + width - c) (drop c p)) j 0)
       → ((j : ℕ) → j < width → old (c + j) ≡ v j)
       → a ≡ each v
-  chunk-loaded old v was is same =
+  chunk_loaded old v was is same =
       is
-      ∙ tabulate-same width
+      ∙ tabulate_same width
       (λ j l.
-      part-place p c (c + width) j (omega arith)
+      part_place p c (c + width) j (omega arith)
       ∙ fill.old (c + j) (omega arith)
       ∙ ap (λ (l : List ℕ). get_or l (c + j) 0) was
       ∙ get_d_tabulate strip old (c + j) 0 (omega arith)
       ∙ same j l)
 
   -- and is filled with what is stored there
-  pub chunk-stored : {a m rest : List ℕ} (v : ℕ → ℕ) {k : ℕ} → c + width ≡ k → a ≡ each v → ((j : ℕ) → j < width → v j ≡ new (c + j)) → m ≡ stored (take (c + width - c) (drop c p)) a → rest ≡ drop (c + width) p
+  pub chunk_stored : {a m rest : List ℕ} (v : ℕ → ℕ) {k : ℕ} → c + width ≡ k → a ≡ each v → ((j : ℕ) → j < width → v j ≡ new (c + j)) → m ≡ stored (take (c + width - c) (drop c p)) a → rest ≡ drop (c + width) p
       → Filled (λ j v. new j) strip p₀ (take c p ++ (m ++ rest)) k
-  chunk-stored {a} {m} {rest} v next is same is_m after =
+  chunk_stored {a} {m} {rest} v next is same is_m after =
       subst (Filled (λ j v. new j) strip p₀ (take c p ++ (m ++ rest))) next
-      (fill-part width fill fits
+      (fill_part width fill fits
       (is_m
-      ∙ stored_short (take (c + width - c) (drop c p)) a (omega (arith, chunk-length))
-      ∙ ap (λ (k : ℕ). tabulate k (λ j. get_or a j 0)) chunk-length
-      ∙ tabulate-same width (λ j l. ap (λ (l : List ℕ). get_or l j 0) is ∙ each_at v j l ∙ same j l))
+      ∙ stored_short (take (c + width - c) (drop c p)) a (omega (arith, chunk_length))
+      ∙ ap (λ (k : ℕ). tabulate k (λ j. get_or a j 0)) chunk_length
+      ∙ tabulate_same width (λ j l. ap (λ (l : List ℕ). get_or l j 0) is ∙ each_at v j l ∙ same j l))
       after)
 
 -- its columns are the strip's
@@ -110,16 +110,16 @@ module _ {g : Geometry} {s : List ℕ} {i : ℕ} (h : HasStrip g s i) (c : ℕ) 
   pub chunk_of : Has g s (i + c) width
   chunk_of = record { shaped = h.shaped; fits = omega (arith, h.fits); held = omega arith }
 
-  pub chunk-column : (x y j : ℕ) → j < width → without x y (columnOf g s (i + c) width j) ≡ stripColumn g s i x y (c + j)
-  chunk-column x y j l = ap (without x y) (column-of chunk_of j l ∙ ap (column g s) (omega arith))
+  pub chunk_column : (x y j : ℕ) → j < width → without x y (column_of g s (i + c) width j) ≡ strip_column g s i x y (c + j)
+  chunk_column x y j l = ap (without x y) (column_of_lem chunk_of j l ∙ ap (column g s) (omega arith))
 
   -- what is worked out of each of its columns, lent from a strip of them
-  pub chunk-seen : (x y : ℕ) (f : Column → ℕ) (before : List ℕ) {l a : List ℕ} → l ≡ overStrip g s i x y f before → a ≡ each (λ j. get_or (take (c + width - c) (drop c l)) j 0)
+  pub chunk_seen : (x y : ℕ) (f : Column → ℕ) (before : List ℕ) {l a : List ℕ} → l ≡ over_strip g s i x y f before → a ≡ each (λ j. get_or (take (c + width - c) (drop c l)) j 0)
       → Holds width (λ j. f (without x y (column g s (i + c + j)))) a
-  chunk-seen x y f before {l} is load j low =
+  chunk_seen x y f before {l} is load j low =
       ap (λ (a : List ℕ). get_or a j 0) load
       ∙ each_at _ j low
-      ∙ part-place l c (c + width) j (omega arith)
-      ∙ ap (λ (l : List ℕ). get_or l (c + j) 0) (rw (has-strip-true h) at is)
-      ∙ get_d_tabulate strip (λ j. f (stripColumn g s i x y j)) (c + j) 0 (omega arith)
+      ∙ part_place l c (c + width) j (omega arith)
+      ∙ ap (λ (l : List ℕ). get_or l (c + j) 0) (rw (has_strip_true h) at is)
+      ∙ get_d_tabulate strip (λ j. f (strip_column g s i x y j)) (c + j) 0 (omega arith)
       ∙ ap (λ (k : ℕ). f (without x y (column g s k))) (omega arith)

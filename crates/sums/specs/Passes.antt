@@ -1,27 +1,27 @@
 -- P and Q set in passes over pages of columns, for any numbers.
 use Rattle.std.specs.Prelude.{ℕ, ◌+◌, ◌%◌, ◌≤◌, ◌<◌, ◌≡◌, ◌⊎◌, Bool, List, eqb, ltb, length}
 use Rattle.base.specs.Choice.{choose, both}
-use Rattle.column.specs.Column.{Column, put, encodeColumn, reedSolomon}
+use Rattle.column.specs.Column.{Column, put, encode_column, reed_solomon}
 use Rattle.shape.specs.declared.Geometry.{Geometry}
 use Rattle.shape.specs.Layout.{column, lift}
-use Rattle.shape.specs.Refusals.{encodeRefusal}
-use Rattle.sums.specs.Sums.{tailP, tailQ}
+use Rattle.shape.specs.Refusals.{encode_refusal}
+use Rattle.sums.specs.Sums.{tail_p, tail_q}
 
 abbrev pub page : ℕ
 page = 4096
 
 -- a stripe is for passes: it has more than 6 disks, and its blocks are whole pages
-abbrev pub inPasses : Geometry → Bool
-inPasses g = both (ltb 6 g.n) (eqb (g.b % page) 0)
+abbrev pub in_passes : Geometry → Bool
+in_passes g = both (ltb 6 g.n) (eqb (g.b % page) 0)
 
 -- every column encoded; the buffer as it was where it is no stripe, or not one for passes
-abbrev pub paritiesSet : Geometry → List ℕ → List ℕ
-paritiesSet g s = choose (both (eqb (encodeRefusal g (length s)) 0) (inPasses g)) (lift g (λ i c. encodeColumn reedSolomon g.n c) s) s
+abbrev pub parities_set : Geometry → List ℕ → List ℕ
+parities_set g s = choose (both (eqb (encode_refusal g (length s)) 0) (in_passes g)) (lift g (λ i c. encode_column reed_solomon g.n c) s) s
 
 -- ---- what private functions suppose and promise; no public contract rests on the rest
 -- a column whose P and Q hold the sums over the disks from k on; the column itself where there are no such disks
 abbrev pub stage : ℕ → ℕ → Column → Column
-stage n k c = choose (eqb k n) c (put n (tailP n k c) (put (n + 1) (tailQ n k c) c))
+stage n k c = choose (eqb k n) c (put n (tail_p n k c) (put (n + 1) (tail_q n k c) c))
 
 -- the w columns from i on are those of f at this stage
 abbrev pub Staged : Geometry → ℕ → ℕ → ℕ → (ℕ → Column) → List ℕ → Type 0

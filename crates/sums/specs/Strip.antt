@@ -3,37 +3,37 @@ use Rattle.std.specs.Prelude.{ℕ, ◌+◌, ◌-◌, ◌≤◌, ◌<◌, ◌≡�
 use Rattle.base.specs.Choice.{choose, both, either}
 use Rattle.base.specs.Table.{tabulate}
 use Rattle.chunk.specs.Chunk.{width}
-use Rattle.column.specs.Column.{Column, syndromeP, syndromeQ, reedSolomon}
+use Rattle.column.specs.Column.{Column, syndrome_p, syndrome_q, reed_solomon}
 use Rattle.losses.specs.Losses.{without}
 use Rattle.shape.specs.declared.Geometry.{Geometry}
 use Rattle.shape.specs.Layout.{column}
-use Rattle.shape.specs.Refusals.{encodeRefusal, WellShaped}
-use Rattle.stretch.specs.Stretch.{columnOf}
-use Rattle.sums.specs.Sums.{tailP, tailQ, Tails}
+use Rattle.shape.specs.Refusals.{encode_refusal, WellShaped}
+use Rattle.stretch.specs.Stretch.{column_of}
+use Rattle.sums.specs.Sums.{tail_p, tail_q, Tails}
 
 abbrev pub strip : ℕ
 strip = 1024
 
 -- a stripe is worked on in strips: it has more than 64 disks and a strip of columns
-abbrev pub inStrips : Geometry → Bool
-inStrips g = both (ltb 64 g.n) (leb strip g.b)
+abbrev pub in_strips : Geometry → Bool
+in_strips g = both (ltb 64 g.n) (leb strip g.b)
 
 -- a buffer of this length is a stripe with these columns
-abbrev pub hasStrip : Geometry → ℕ → ℕ → Bool
-hasStrip g len i = both (eqb (encodeRefusal g len) 0) (both (leb strip g.b) (leb i (g.b - strip)))
+abbrev pub has_strip : Geometry → ℕ → ℕ → Bool
+has_strip g len i = both (eqb (encode_refusal g len) 0) (both (leb strip g.b) (leb i (g.b - strip)))
 
 -- column i + j without the roles x and y
-abbrev pub stripColumn : Geometry → List ℕ → ℕ → ℕ → ℕ → ℕ → Column
-stripColumn g s i x y j = without x y (column g s (i + j))
+abbrev pub strip_column : Geometry → List ℕ → ℕ → ℕ → ℕ → ℕ → Column
+strip_column g s i x y j = without x y (column g s (i + j))
 
 -- what f makes of each of these columns; what was there before where the stripe has not these
-abbrev pub overStrip : Geometry → List ℕ → ℕ → ℕ → ℕ → (Column → ℕ) → List ℕ → List ℕ
-overStrip g s i x y f before = choose (hasStrip g (length s) i) (tabulate strip (λ j. f (stripColumn g s i x y j))) before
+abbrev pub over_strip : Geometry → List ℕ → ℕ → ℕ → ℕ → (Column → ℕ) → List ℕ → List ℕ
+over_strip g s i x y f before = choose (has_strip g (length s) i) (tabulate strip (λ j. f (strip_column g s i x y j))) before
 
 -- p and q become P* and Q*
 pub record StripSummed (g : Geometry) (i x y : ℕ) (s p q p' q' : List ℕ) : Type 0 where
-  pub first : p' ≡ overStrip g s i x y (syndromeP g.n) p
-  pub second : q' ≡ overStrip g s i x y (syndromeQ reedSolomon g.n) q
+  pub first : p' ≡ over_strip g s i x y (syndrome_p g.n) p
+  pub second : q' ≡ over_strip g s i x y (syndrome_q reed_solomon g.n) q
 
 -- ---- what private functions suppose and promise; no public contract rests on the rest
 pub record HasStrip (g : Geometry) (s : List ℕ) (i : ℕ) : Type 0 where
@@ -41,29 +41,29 @@ pub record HasStrip (g : Geometry) (s : List ℕ) (i : ℕ) : Type 0 where
   pub fits : i + strip ≤ g.b
 
 -- the sums over the disks from k on; below the last disk the stored parities are added
-abbrev pub stageP : ℕ → ℕ → Column → ℕ
-stageP n k c = choose (eqb k 0) (syndromeP n c) (tailP n k c)
+abbrev pub stage_p : ℕ → ℕ → Column → ℕ
+stage_p n k c = choose (eqb k 0) (syndrome_p n c) (tail_p n k c)
 
-abbrev pub stageQ : ℕ → ℕ → Column → ℕ
-stageQ n k c = choose (eqb k 0) (syndromeQ reedSolomon n c) (tailQ n k c)
+abbrev pub stage_q : ℕ → ℕ → Column → ℕ
+stage_q n k c = choose (eqb k 0) (syndrome_q reed_solomon n c) (tail_q n k c)
 
 -- p and q are these of w columns
 pub record Stage (w n k : ℕ) (f : ℕ → Column) (p q : List ℕ) : Type 0 where
-  pub first : p ≡ tabulate w (λ j. stageP n k (f j))
-  pub second : q ≡ tabulate w (λ j. stageQ n k (f j))
+  pub first : p ≡ tabulate w (λ j. stage_p n k (f j))
+  pub second : q ≡ tabulate w (λ j. stage_q n k (f j))
 
 -- a role is none of those from `from` to below `to`
 abbrev pub outside : ℕ → ℕ → ℕ → Bool
 outside role from to = either (ltb role from) (leb to role)
 
 -- neither x nor y is, and there are disks below these
-abbrev pub plainGroup : ℕ → ℕ → ℕ → ℕ → Bool
-plainGroup x y from to = both (outside x from to) (both (outside y from to) (ltb 0 from))
+abbrev pub plain_group : ℕ → ℕ → ℕ → ℕ → Bool
+plain_group x y from to = both (outside x from to) (both (outside y from to) (ltb 0 from))
 
 -- a group of disks is added to those above it
 abbrev pub GroupAdded : Geometry → ℕ → ℕ → ℕ → ℕ → ℕ → List ℕ → List ℕ → List ℕ → List ℕ → List ℕ → Type 0
 GroupAdded g i x y from to s p q p' q' =
-    let f : ℕ → Column = λ j. without x y (columnOf g s i width j) in Tails g.n to f p q → Stage width g.n from f p' q'
+    let f : ℕ → Column = λ j. without x y (column_of g s i width j) in Tails g.n to f p q → Stage width g.n from f p' q'
 
 -- so are those of them above a lost disk, and the lost one as 00, or none where it is none of them; r is the first that is done
 pub record AddedWithin (g : Geometry) (i lost from to : ℕ) (s p q : List ℕ) (r : ℕ) (p' q' : List ℕ) : Type 0 where

@@ -2,31 +2,31 @@
 use Rattle.std.specs.Prelude.{ℕ, ◌+◌, ◌-◌, ◌≤◌, ◌<◌, ◌≡◌, List}
 use Rattle.gf256.specs.Field.{product, power}
 use Rattle.chunk.specs.Chunk.{width, each}
-use Rattle.column.specs.Column.{Column, total, parityP, parityQ, syndromeP, syndromeQ, reedSolomon}
+use Rattle.column.specs.Column.{Column, total, parity_p, parity_q, syndrome_p, syndrome_q, reed_solomon}
 use Rattle.shape.specs.declared.Geometry.{Geometry}
 use Rattle.shape.specs.Layout.{column}
 use Rattle.sums.specs.declared.Sums.{Sums}
 
 -- the right sides of equations 1 and 2 in each column
-abbrev pub paritiesOf : ℕ → (ℕ → Column) → Sums
-paritiesOf n f = record { p = each (λ j. parityP n (f j)); q = each (λ j. parityQ reedSolomon n (f j)) }
+abbrev pub parities_of : ℕ → (ℕ → Column) → Sums
+parities_of n f = record { p = each (λ j. parity_p n (f j)); q = each (λ j. parity_q reed_solomon n (f j)) }
 
 -- P* and Q* of each column
-abbrev pub sumsOf : ℕ → (ℕ → Column) → Sums
-sumsOf n f = record { p = each (λ j. syndromeP n (f j)); q = each (λ j. syndromeQ reedSolomon n (f j)) }
+abbrev pub sums_of : ℕ → (ℕ → Column) → Sums
+sums_of n f = record { p = each (λ j. syndrome_p n (f j)); q = each (λ j. syndrome_q reed_solomon n (f j)) }
 
 -- ---- Horner's rule (equation 21), from the highest disk down; no public contract rests on the rest
 -- f k + f (k+1) + ... + f (n-1), and 02^0·f k + 02^1·f (k+1) + ... + 02^(n-1-k)·f (n-1)
-abbrev pub tailP : ℕ → ℕ → (ℕ → ℕ) → ℕ
-tailP n k f = total (n - k) (λ j. f (k + j))
+abbrev pub tail_p : ℕ → ℕ → (ℕ → ℕ) → ℕ
+tail_p n k f = total (n - k) (λ j. f (k + j))
 
-abbrev pub tailQ : ℕ → ℕ → (ℕ → ℕ) → ℕ
-tailQ n k f = total (n - k) (λ j. product (power 2 j) (f (k + j)))
+abbrev pub tail_q : ℕ → ℕ → (ℕ → ℕ) → ℕ
+tail_q n k f = total (n - k) (λ j. product (power 2 j) (f (k + j)))
 
 -- p and q are these sums of each column
 pub record Tails (n k : ℕ) (f : ℕ → Column) (p q : List ℕ) : Type 0 where
-  pub first : p ≡ each (λ j. tailP n k (f j))
-  pub second : q ≡ each (λ j. tailQ n k (f j))
+  pub first : p ≡ each (λ j. tail_p n k (f j))
+  pub second : q ≡ each (λ j. tail_q n k (f j))
 
 -- the columns f are the stripe's on the disks from `from` to below `to`
 abbrev pub Agrees : Geometry → ℕ → ℕ → ℕ → List ℕ → (ℕ → Column) → Type 0

@@ -2,14 +2,14 @@
 // disk down. A stripe that has not these columns is taken as 00.
 ghost use Rattle.std.specs.Prelude.{◌≡◌, ◌⊎◌, ◌+◌, ◌≤◌, ◌<◌, get_or};
 ghost use Rattle.chunk.specs.Chunk.{width, each};
-ghost use Rattle.losses.specs.Losses.{without, byP};
+ghost use Rattle.losses.specs.Losses.{without, by_p};
 ghost use Rattle.shape.specs.Refusals.{WellShaped};
 ghost use Rattle.shape.specs.Columns.{ColumnsMapped};
-ghost use Rattle.column.specs.Column.{put, encodeColumn, reedSolomon};
-ghost use Rattle.stretch.specs.Stretch.{Has, columnOf, setOn};
-ghost use Rattle.sums.specs.Sums.{paritiesOf, sumsOf, DisksAdded, AddedAbove};
-ghost use Rattle.sums.specs.Strip.{strip, inStrips, hasStrip, HasStrip, stripColumn, StripSummed, Stage, outside, plainGroup, GroupAdded, AddedWithin};
-ghost use Rattle.sums.specs.Passes.{page, inPasses, paritiesSet, Passed};
+ghost use Rattle.column.specs.Column.{put, encode_column, reed_solomon};
+ghost use Rattle.stretch.specs.Stretch.{Has, column_of, set_on};
+ghost use Rattle.sums.specs.Sums.{parities_of, sums_of, DisksAdded, AddedAbove};
+ghost use Rattle.sums.specs.Strip.{strip, in_strips, has_strip, HasStrip, strip_column, StripSummed, Stage, outside, plain_group, GroupAdded, AddedWithin};
+ghost use Rattle.sums.specs.Passes.{page, in_passes, parities_set, Passed};
 
 use chunk::WIDTH;
 use shape::Geometry;
@@ -46,7 +46,7 @@ const PASS: usize = 5;
 
 // P and Q of each column of a chunk, as the data give them.
 pub fn parities(g: Geometry, stripe: &[u8], i: usize) -> Sums
-    ensures { result ≡ paritiesOf g.n (columnOf g stripe.now i width) }
+    ensures { result ≡ parities_of g.n (column_of g stripe.now i width) }
 {
     let mut p = [0u8; WIDTH];
     let mut q = [0u8; WIDTH];
@@ -62,7 +62,7 @@ pub fn parities(g: Geometry, stripe: &[u8], i: usize) -> Sums
 // P* and Q* of each column of a chunk: the parities that the data give, and the stored ones added.
 // It does not call `parities`, which has one caller and so is compiled into that one's loop.
 pub fn syndromes(g: Geometry, stripe: &[u8], i: usize) -> Sums
-    ensures { result ≡ sumsOf g.n (columnOf g stripe.now i width) }
+    ensures { result ≡ sums_of g.n (column_of g stripe.now i width) }
 {
     let mut p = [0u8; WIDTH];
     let mut q = [0u8; WIDTH];
@@ -82,7 +82,7 @@ pub fn syndromes(g: Geometry, stripe: &[u8], i: usize) -> Sums
 // P* and Q* of each column of a chunk without the roles x and y. A lost disk is no part of the loops:
 // its step is a doubling.
 pub fn survivors(g: Geometry, stripe: &[u8], i: usize, x: usize, y: usize) -> Sums
-    ensures { result ≡ sumsOf g.n (λ j. without x y (columnOf g stripe.now i width j)) }
+    ensures { result ≡ sums_of g.n (λ j. without x y (column_of g stripe.now i width j)) }
 {
     let mut p = [0u8; WIDTH];
     let mut q = [0u8; WIDTH];
@@ -101,7 +101,7 @@ pub fn survivors(g: Geometry, stripe: &[u8], i: usize, x: usize, y: usize) -> Su
 
 // The same of w columns.
 pub fn part_survivors(g: Geometry, stripe: &[u8], i: usize, w: usize, x: usize, y: usize) -> Sums
-    ensures { result ≡ sumsOf g.n (λ j. without x y (columnOf g stripe.now i w j)) }
+    ensures { result ≡ sums_of g.n (λ j. without x y (column_of g stripe.now i w j)) }
 {
     let mut p = [0u8; WIDTH];
     let mut q = [0u8; WIDTH];
@@ -149,7 +149,7 @@ pub fn strip_survivors(
 
 // Whether a stripe is to be worked on in strips: it has many disks, and a strip of columns.
 pub fn in_strips(g: Geometry) -> bool
-    ensures { result ≡ inStrips g }
+    ensures { result ≡ in_strips g }
 {
     if g.n <= FEW {
         return false;
@@ -159,7 +159,7 @@ pub fn in_strips(g: Geometry) -> bool
 
 // Whether P and Q of a stripe are set in passes: blocks are whole pages, and the disks are too many to be read side by side.
 pub fn in_passes(g: Geometry) -> bool
-    ensures { result ≡ inPasses g }
+    ensures { result ≡ in_passes g }
 {
     if g.n <= SIDE_BY_SIDE {
         return false;
@@ -170,7 +170,7 @@ pub fn in_passes(g: Geometry) -> bool
 // P and Q of every column as the data give them, in passes over each page: a pass adds some disks, and in between P and Q
 // themselves hold the sums over the disks above. A stripe that is not for passes stays.
 pub fn set_parities(g: Geometry, stripe: &mut [u8])
-    ensures { stripe.new ≡ paritiesSet g stripe.old }
+    ensures { stripe.new ≡ parities_set g stripe.old }
 {
     if shape::encode_refusal(g, stripe.len()) != 0 {
         return;
@@ -188,7 +188,7 @@ pub fn set_parities(g: Geometry, stripe: &mut [u8])
 
 // The sum of the data and P of each of w columns without role x. Q is neither read nor summed.
 pub fn sum_without(g: Geometry, stripe: &[u8], i: usize, w: usize, x: usize) -> [u8; WIDTH]
-    ensures { result ≡ each (λ j. byP g.n x (columnOf g stripe.now i w j)) }
+    ensures { result ≡ each (λ j. by_p g.n x (column_of g stripe.now i w j)) }
 {
     let mut p = [0u8; WIDTH];
     if !stretch::has_columns(g, stripe.len(), i, w) {
@@ -289,7 +289,7 @@ fn add_pairs(
 
 // Whether a buffer of this length is a stripe with a strip of columns from i on.
 fn has_strip(g: Geometry, len: usize, i: usize) -> bool
-    ensures { result ≡ hasStrip g len i }
+    ensures { result ≡ has_strip g len i }
 {
     if shape::encode_refusal(g, len) != 0 {
         return false;
@@ -320,8 +320,8 @@ fn add_to_strip(
     p: &mut [u8],
     q: &mut [u8],
 )
-    requires { HasStrip g stripe.now i × (from < to) × (to ≤ g.n) × Stage strip g.n to (stripColumn g stripe.now i x y) p.old q.old }
-    ensures { Stage strip g.n from (stripColumn g stripe.now i x y) p.new q.new }
+    requires { HasStrip g stripe.now i × (from < to) × (to ≤ g.n) × Stage strip g.n to (strip_column g stripe.now i x y) p.old q.old }
+    ensures { Stage strip g.n from (strip_column g stripe.now i x y) p.new q.new }
 {
     let mut m = 0;
     while m < CHUNKS {
@@ -368,7 +368,7 @@ fn add_group(
 
 // Whether a group has neither x nor y and is not the last.
 fn is_plain(x: usize, y: usize, from: usize, to: usize) -> bool
-    ensures { result ≡ plainGroup x y from to }
+    ensures { result ≡ plain_group x y from to }
 {
     if !is_outside(x, from, to) {
         return false;
@@ -418,7 +418,7 @@ fn load_but(
     x: usize,
     y: usize,
 ) -> [u8; WIDTH]
-    ensures { result ≡ each (λ j. without x y (columnOf g stripe.now i w j) role) }
+    ensures { result ≡ each (λ j. without x y (column_of g stripe.now i w j) role) }
 {
     if role == x {
         return [0u8; WIDTH];
@@ -432,7 +432,7 @@ fn load_but(
 // The parities of a page of columns.
 fn set_page(g: Geometry, stripe: &mut [u8], i: usize)
     requires { WellShaped g stripe.old × (i + page ≤ g.b) }
-    ensures { ColumnsMapped g i page (λ j c. encodeColumn reedSolomon g.n c) stripe.old stripe.new }
+    ensures { ColumnsMapped g i page (λ j c. encode_column reed_solomon g.n c) stripe.old stripe.new }
 {
     let mut to = group_below(g.n, PASS);
     begin_page(g, stripe, i, to);
@@ -503,7 +503,7 @@ fn set_sums(g: Geometry, stripe: &mut [u8], i: usize, p: [u8; WIDTH], q: [u8; WI
 // What `stretch` loads and sets, without its tests: a pass would make them at each chunk.
 fn chunk_at(g: Geometry, stripe: &[u8], role: usize, i: usize) -> [u8; WIDTH]
     requires { Has g stripe.now i width × (role < g.n + 2) }
-    ensures { result ≡ each (λ j. columnOf g stripe.now i width j role) }
+    ensures { result ≡ each (λ j. column_of g stripe.now i width j role) }
 {
     let at = g.start(role) + i;
     chunk::load(&stripe[at..at + WIDTH])
@@ -511,7 +511,7 @@ fn chunk_at(g: Geometry, stripe: &[u8], role: usize, i: usize) -> [u8; WIDTH]
 
 fn set_chunk(g: Geometry, stripe: &mut [u8], role: usize, i: usize, new: [u8; WIDTH])
     requires { Has g stripe.old i width × (role < g.n + 2) }
-    ensures { stripe.new ≡ setOn g role i width new stripe.old }
+    ensures { stripe.new ≡ set_on g role i width new stripe.old }
 {
     let at = g.start(role) + i;
     chunk::store(&mut stripe[at..at + WIDTH], new);

@@ -12,139 +12,139 @@ use native.Mathlib.Omega.{arith}
 use borrow.Author.Tests.{eq-eqb, ne_eqb}
 use lib.ListN.{length, set, take, drop}
 use Rattle.base.specs.Table.{tabulate}
-use Rattle.base.proofs.Table.{tabulate-split}
-use Rattle.base.proofs.Fill.{Filled, fill_none, fill_more, fill-part, fill-all}
+use Rattle.base.proofs.Table.{tabulate_split}
+use Rattle.base.proofs.Fill.{Filled, fill_none, fill_more, fill_part, fill_all}
 use Rattle.verdict.specs.Summary.{mixed, joined, summary, WithSummary}
 
 -- ---- what is known of `joined`: 0 adds nothing, two that agree give what they agree on, and two others give 4, to which nothing adds
-pub joined-left : (b : ℕ) → joined 0 b ≡ b
+pub joined_left : (b : ℕ) → joined 0 b ≡ b
 unfolding joined
-joined-left b = refl
+joined_left b = refl
 
-pub joined-right : (a : ℕ) → joined a 0 ≡ a
+pub joined_right : (a : ℕ) → joined a 0 ≡ a
 unfolding joined
-joined-right zero = refl
-joined-right (suc a) = refl
+joined_right zero = refl
+joined_right (suc a) = refl
 
 pub joined_same : (a : ℕ) → joined a a ≡ a
 unfolding joined
 joined_same zero = refl
 joined_same (suc a) = rw (eq-eqb (suc a) (suc a) refl)
 
-pub joined-differ : (a b : ℕ) → a ≢ 0 → b ≢ 0 → a ≢ b → joined a b ≡ mixed
+pub joined_differ : (a b : ℕ) → a ≢ 0 → b ≢ 0 → a ≢ b → joined a b ≡ mixed
 unfolding joined
-joined-differ zero b ha hb n = absurd (ha refl)
-joined-differ (suc a) zero ha hb n = absurd (hb refl)
-joined-differ (suc a) (suc b) ha hb n = rw (ne_eqb (suc a) (suc b) n)
+joined_differ zero b ha hb n = absurd (ha refl)
+joined_differ (suc a) zero ha hb n = absurd (hb refl)
+joined_differ (suc a) (suc b) ha hb n = rw (ne_eqb (suc a) (suc b) n)
 
 -- what it is, seen from the first
-pub joined-over : (a b : ℕ) → (a ≡ 0) ⊎ (joined a b ≡ a) ⊎ (joined a b ≡ mixed)
-joined-over a b = go (ℕ_discrete a 0) (ℕ_discrete b 0) (ℕ_discrete a b)
+pub joined_over : (a b : ℕ) → (a ≡ 0) ⊎ (joined a b ≡ a) ⊎ (joined a b ≡ mixed)
+joined_over a b = go (ℕ_discrete a 0) (ℕ_discrete b 0) (ℕ_discrete a b)
   where
     go : Dec (a ≡ 0) → Dec (b ≡ 0) → Dec (a ≡ b) → (a ≡ 0) ⊎ (joined a b ≡ a) ⊎ (joined a b ≡ mixed)
     go (yes e) db d = inl e
-    go (no x) (yes e) d = inr (inl (rw e (joined-right a)))
+    go (no x) (yes e) d = inr (inl (rw e (joined_right a)))
     go (no x) (no y) (yes e) = inr (inl (rw (← e) (joined_same a)))
-    go (no x) (no y) (no n) = inr (inr (joined-differ a b x y n))
+    go (no x) (no y) (no n) = inr (inr (joined_differ a b x y n))
 
-pub joined-comm : (a b : ℕ) → joined a b ≡ joined b a
-joined-comm a b = go (ℕ_discrete a 0) (ℕ_discrete b 0) (ℕ_discrete a b)
+pub joined_comm : (a b : ℕ) → joined a b ≡ joined b a
+joined_comm a b = go (ℕ_discrete a 0) (ℕ_discrete b 0) (ℕ_discrete a b)
   where
     go : Dec (a ≡ 0) → Dec (b ≡ 0) → Dec (a ≡ b) → joined a b ≡ joined b a
-    go (yes e) db d = simp (e, joined-left, joined-right)
-    go (no x) (yes e) d = simp (e, joined-left, joined-right)
+    go (yes e) db d = simp (e, joined_left, joined_right)
+    go (no x) (yes e) d = simp (e, joined_left, joined_right)
     go (no x) (no y) (yes e) = simp e
-    go (no x) (no y) (no n) = joined-differ a b x y n ∙ sym (joined-differ b a y x (λ e. n (sym e)))
+    go (no x) (no y) (no n) = joined_differ a b x y n ∙ sym (joined_differ b a y x (λ e. n (sym e)))
 
-mixed-left : (b : ℕ) → joined mixed b ≡ mixed
-mixed-left b = ⊎_elim (λ e. absurd (suc-ne-zero 3 e)) (⊎_elim (λ e. e) (λ e. e)) (joined-over mixed b)
+mixed_left : (b : ℕ) → joined mixed b ≡ mixed
+mixed_left b = ⊎_elim (λ e. absurd (suc-ne-zero 3 e)) (⊎_elim (λ e. e) (λ e. e)) (joined_over mixed b)
 
-pub mixed-right : (a : ℕ) → joined a mixed ≡ mixed
-mixed-right a = joined-comm a mixed ∙ mixed-left a
+pub mixed_right : (a : ℕ) → joined a mixed ≡ mixed
+mixed_right a = joined_comm a mixed ∙ mixed_left a
 
-joined-assoc : (a b c : ℕ) → joined (joined a b) c ≡ joined a (joined b c)
-joined-assoc a b c = go (ℕ_discrete a 0) (ℕ_discrete b 0) (ℕ_discrete c 0) (ℕ_discrete a b) (ℕ_discrete b c)
+joined_assoc : (a b c : ℕ) → joined (joined a b) c ≡ joined a (joined b c)
+joined_assoc a b c = go (ℕ_discrete a 0) (ℕ_discrete b 0) (ℕ_discrete c 0) (ℕ_discrete a b) (ℕ_discrete b c)
   where
     go : Dec (a ≡ 0) → Dec (b ≡ 0) → Dec (c ≡ 0) → Dec (a ≡ b) → Dec (b ≡ c) → joined (joined a b) c ≡ joined a (joined b c)
-    go (yes e) db dc d f = simp (e, joined-left)
-    go (no x) (yes e) dc d f = simp (e, joined-left, joined-right)
-    go (no x) (no y) (yes e) d f = simp (e, joined-right)
+    go (yes e) db dc d f = simp (e, joined_left)
+    go (no x) (yes e) dc d f = simp (e, joined_left, joined_right)
+    go (no x) (no y) (yes e) d f = simp (e, joined_right)
     go (no x) (no y) (no z) (yes e) (yes f) = simp (e, f, joined_same)
-    go (no x) (no y) (no z) (yes e) (no n) = simp (e, joined_same, joined-differ b c y z n, mixed-right)
-    go (no x) (no y) (no z) (no n) (yes f) = simp (← f, joined_same, joined-differ a b x y n, mixed-left)
-    go (no x) (no y) (no z) (no n) (no m) = simp (joined-differ a b x y n, joined-differ b c y z m, mixed-left, mixed-right)
+    go (no x) (no y) (no z) (yes e) (no n) = simp (e, joined_same, joined_differ b c y z n, mixed_right)
+    go (no x) (no y) (no z) (no n) (yes f) = simp (← f, joined_same, joined_differ a b x y n, mixed_left)
+    go (no x) (no y) (no z) (no n) (no m) = simp (joined_differ a b x y n, joined_differ b c y z m, mixed_left, mixed_right)
 
 -- ---- the summary
-pub summary-append : (a b : List ℕ) → summary (a ++ b) ≡ joined (summary a) (summary b)
+pub summary_append : (a b : List ℕ) → summary (a ++ b) ≡ joined (summary a) (summary b)
 unfolding summary
-summary-append [] b = sym (joined-left (summary b))
-summary-append (v ∷ a) b = ap (joined v) (summary-append a b) ∙ sym (joined-assoc v (summary a) (summary b))
+summary_append [] b = sym (joined_left (summary b))
+summary_append (v ∷ a) b = ap (joined v) (summary_append a b) ∙ sym (joined_assoc v (summary a) (summary b))
 
-pub summary-none : (f : ℕ → ℕ) → summary (tabulate 0 f) ≡ 0
+pub summary_none : (f : ℕ → ℕ) → summary (tabulate 0 f) ≡ 0
 unfolding tabulate summary
-summary-none f = refl
+summary_none f = refl
 
-summary-one : (f : ℕ → ℕ) → summary (tabulate 1 f) ≡ f 0
+summary_one : (f : ℕ → ℕ) → summary (tabulate 1 f) ≡ f 0
 unfolding tabulate summary
-summary-one f = joined-right (f 0)
+summary_one f = joined_right (f 0)
 
-pub summary-zeros : (k : ℕ) → summary (tabulate k (λ j. 0)) ≡ 0
+pub summary_zeros : (k : ℕ) → summary (tabulate k (λ j. 0)) ≡ 0
 unfolding tabulate summary
-summary-zeros zero = refl
-summary-zeros (suc k) = joined-left (summary (tabulate k (λ j. 0))) ∙ summary-zeros k
+summary_zeros zero = refl
+summary_zeros (suc k) = joined_left (summary (tabulate k (λ j. 0))) ∙ summary_zeros k
 
 -- the places below i hold f, and found is their summary
 pub record FilledWithSummary (f : ℕ → ℕ) (n : ℕ) (s t : List ℕ) (i found : ℕ) : Type 0 where
   pub filled : Filled (λ j v. f j) n s t i
   pub summarized : found ≡ summary (tabulate i f)
 
-summary-split : (a b : ℕ) (f : ℕ → ℕ) → summary (tabulate (a + b) f) ≡ joined (summary (tabulate a f)) (summary (tabulate b (λ j. f (a + j))))
-summary-split a b f = ap summary (tabulate-split a b f) ∙ summary-append (tabulate a f) (tabulate b (λ j. f (a + j)))
+summary_split : (a b : ℕ) (f : ℕ → ℕ) → summary (tabulate (a + b) f) ≡ joined (summary (tabulate a f)) (summary (tabulate b (λ j. f (a + j))))
+summary_split a b f = ap summary (tabulate_split a b f) ∙ summary_append (tabulate a f) (tabulate b (λ j. f (a + j)))
 
 -- k columns from i on, of which those below c were summarized already
-pub summary-again : (f : ℕ → ℕ) (i k c : ℕ) {found v r : ℕ} → i ≤ c → c ≤ i + k → found ≡ summary (tabulate c f) → v ≡ summary (tabulate k (λ j. f (i + j))) → r ≡ joined found v
+pub summary_again : (f : ℕ → ℕ) (i k c : ℕ) {found v r : ℕ} → i ≤ c → c ≤ i + k → found ≡ summary (tabulate c f) → v ≡ summary (tabulate k (λ j. f (i + j))) → r ≡ joined found v
     → r ≡ summary (tabulate (i + k) f)
-summary-again f i k c begins reaches before after step =
+summary_again f i k c begins reaches before after step =
     let here : ℕ → ℕ = λ j. f (i + j) in
     let low = summary (tabulate i f) in
     let again = summary (tabulate (c - i) here) in
     let new = summary (tabulate (i + k - c) (λ j. here (c - i + j))) in
-    let both : summary (tabulate k here) ≡ joined again new = ap (λ (m : ℕ). summary (tabulate m here)) (omega arith) ∙ summary-split (c - i) (i + k - c) here in
+    let both : summary (tabulate k here) ≡ joined again new = ap (λ (m : ℕ). summary (tabulate m here)) (omega arith) ∙ summary_split (c - i) (i + k - c) here in
     step
-    ∙ ap₂ joined (before ∙ ap (λ (m : ℕ). summary (tabulate m f)) (omega arith) ∙ summary-split i (c - i) f) (after ∙ both)
-    ∙ joined-assoc low again (joined again new)
-    ∙ ap (joined low) (sym (joined-assoc again again new) ∙ ap (λ (m : ℕ). joined m new) (joined_same again) ∙ sym both)
-    ∙ sym (summary-split i k f)
+    ∙ ap₂ joined (before ∙ ap (λ (m : ℕ). summary (tabulate m f)) (omega arith) ∙ summary_split i (c - i) f) (after ∙ both)
+    ∙ joined_assoc low again (joined again new)
+    ∙ ap (joined low) (sym (joined_assoc again again new) ∙ ap (λ (m : ℕ). joined m new) (joined_same again) ∙ sym both)
+    ∙ sym (summary_split i k f)
 
 -- one stretch more
-summary-more : (f : ℕ → ℕ) (i k : ℕ) {found v r : ℕ} → found ≡ summary (tabulate i f) → v ≡ summary (tabulate k (λ j. f (i + j))) → r ≡ joined found v
+summary_more : (f : ℕ → ℕ) (i k : ℕ) {found v r : ℕ} → found ≡ summary (tabulate i f) → v ≡ summary (tabulate k (λ j. f (i + j))) → r ≡ joined found v
     → r ≡ summary (tabulate (i + k) f)
-summary-more f i k before after step = summary-again f i k i (le_refl i) (omega arith) before after step
+summary_more f i k before after step = summary_again f i k i (le_refl i) (omega arith) before after step
 
 module _ {f : ℕ → ℕ} {n : ℕ} {s : List ℕ} where
-  pub summary-filled-none : length s ≡ n → FilledWithSummary f n s s 0 0
-  summary-filled-none len = record { filled = fill_none len; summarized = sym (summary-none f) }
+  pub summary_filled_none : length s ≡ n → FilledWithSummary f n s s 0 0
+  summary_filled_none len = record { filled = fill_none len; summarized = sym (summary_none f) }
 
-  pub summary-filled-more : {t : List ℕ} {i found v r : ℕ} → FilledWithSummary f n s t i found → i < n → v ≡ f i → r ≡ joined found v
+  pub summary_filled_more : {t : List ℕ} {i found v r : ℕ} → FilledWithSummary f n s t i found → i < n → v ≡ f i → r ≡ joined found v
       → FilledWithSummary f n s (set t i v) (i + 1) r
-  summary-filled-more {i = i} fill h e step =
+  summary_filled_more {i = i} fill h e step =
       record {
         filled = fill_more fill.filled h e;
-        summarized = summary-more f i 1 fill.summarized (e ∙ sym (rw (summary-one, add-zero))) step;
+        summarized = summary_more f i 1 fill.summarized (e ∙ sym (rw (summary_one, add-zero))) step;
       }
 
-  pub summary-filled-part : {t m rest : List ℕ} {i found v r : ℕ} (k : ℕ) → FilledWithSummary f n s t i found → i + k ≤ n
+  pub summary_filled_part : {t m rest : List ℕ} {i found v r : ℕ} (k : ℕ) → FilledWithSummary f n s t i found → i + k ≤ n
       → WithSummary (tabulate k (λ j. f (i + j))) v m
       → rest ≡ drop (i + k) t
       → r ≡ joined found v
       → FilledWithSummary f n s (take i t ++ (m ++ rest)) (i + k) r
-  summary-filled-part {i = i} k fill h part after step =
-      record { filled = fill-part k fill.filled h part.room after; summarized = summary-more f i k fill.summarized part.result step }
+  summary_filled_part {i = i} k fill h part after step =
+      record { filled = fill_part k fill.filled h part.room after; summarized = summary_more f i k fill.summarized part.result step }
 
-  pub summary-filled-all : {t : List ℕ} {i found : ℕ} → FilledWithSummary f n s t i found → i ≡ n → WithSummary (tabulate n f) found t
-  summary-filled-all fill all =
-      record { result = fill.summarized ∙ ap (λ (k : ℕ). summary (tabulate k f)) all; room = fill-all fill.filled (omega arith) }
+  pub summary_filled_all : {t : List ℕ} {i found : ℕ} → FilledWithSummary f n s t i found → i ≡ n → WithSummary (tabulate n f) found t
+  summary_filled_all fill all =
+      record { result = fill.summarized ∙ ap (λ (k : ℕ). summary (tabulate k f)) all; room = fill_all fill.filled (omega arith) }
 
 -- the same list said otherwise
-pub summary-as : {vs ws after : List ℕ} {r : ℕ} → vs ≡ ws → WithSummary vs r after → WithSummary ws r after
-summary-as {after = after} {r = r} same told = subst (λ (l : List ℕ). WithSummary l r after) same told
+pub summary_as : {vs ws after : List ℕ} {r : ℕ} → vs ≡ ws → WithSummary vs r after → WithSummary ws r after
+summary_as {after = after} {r = r} same told = subst (λ (l : List ℕ). WithSummary l r after) same told

@@ -16,8 +16,8 @@ pub record Agree (v : ℕ) (vs : List ℕ) : Type 0 where
 pub record Differ (vs : List ℕ) : Type 0 where
   pub one : ℕ
   pub other : ℕ
-  pub one-within : one < length vs
-  pub other-within : other < length vs
-  pub one-unclean : get_or vs one 0 ≢ 0
-  pub other-unclean : get_or vs other 0 ≢ 0
+  pub one_within : one < length vs
+  pub other_within : other < length vs
+  pub one_unclean : get_or vs one 0 ≢ 0
+  pub other_unclean : get_or vs other 0 ≢ 0
   pub different : get_or vs one 0 ≢ get_or vs other 0

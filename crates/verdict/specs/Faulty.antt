@@ -6,5 +6,5 @@ use Rattle.verdict.specs.declared.Faulty.{Faulty}
 use Rattle.verdict.specs.declared.Faulty.TheVariants.{One, None}
 
 -- 1 for P, 2 for Q, 16 + z for data disk z; 0, 3 and 4 name none
-abbrev pub faultyOf : ℕ → Faulty
-faultyOf v = choose (eqb v 1) (One P) (choose (eqb v 2) (One Q) (choose (ltb v 16) None (One (Data (v - 16)))))
+abbrev pub faulty_of : ℕ → Faulty
+faulty_of v = choose (eqb v 1) (One P) (choose (eqb v 2) (One Q) (choose (ltb v 16) None (One (Data (v - 16)))))

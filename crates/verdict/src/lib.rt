@@ -1,12 +1,12 @@
 // The verdict that P* and Q* give, on one column and on the columns of a chunk, and the summary.
 ghost use Rattle.std.specs.Prelude.{false, ◌≢◌, ◌≡◌, length, get_or};
 ghost use Rattle.base.specs.Table.{tabulate};
-ghost use Rattle.gf256.specs.Field.{firstExponent};
-ghost use Rattle.column.specs.Column.{verdictOf, located};
-ghost use Rattle.chunk.specs.Chunk.{width, each, allZero};
-ghost use Rattle.verdict.specs.Faulty.{faultyOf};
+ghost use Rattle.gf256.specs.Field.{first_exponent};
+ghost use Rattle.column.specs.Column.{verdict_of, located};
+ghost use Rattle.chunk.specs.Chunk.{width, each, all_zero};
+ghost use Rattle.verdict.specs.Faulty.{faulty_of};
 ghost use Rattle.verdict.specs.Summary.{mixed, joined, WithSummary};
-ghost use Rattle.verdict.specs.Verdicts.{verdictsOf, unclean};
+ghost use Rattle.verdict.specs.Verdicts.{verdicts_of, unclean};
 
 use chunk::WIDTH;
 use column::Device;
@@ -15,7 +15,7 @@ use gf256::{Element, Inverse, Logarithm};
 // The four rows of the paper's table, and equation 27. Neither P* nor Q* is 00 where they are divided,
 // so P* has an inverse and the quotient a logarithm.
 pub fn verdict_of(n: usize, p: Element, q: Element) -> u16
-    ensures { result ≡ verdictOf n p.0 q.0 }
+    ensures { result ≡ verdict_of n p.0 q.0 }
 {
     if p.0 == 0 {
         if q.0 == 0 {
@@ -35,7 +35,7 @@ pub fn verdict_of(n: usize, p: Element, q: Element) -> u16
 // The data disk with this Q*/P*, and 3 where there is none.
 fn located(n: usize, ratio: Element) -> u16
     requires { ratio.0 ≢ 0 }
-    ensures { result ≡ located (firstExponent ratio.0 0 n) }
+    ensures { result ≡ located (first_exponent ratio.0 0 n) }
 {
     match ratio.logarithm() {
         Logarithm::Is(z) => {
@@ -80,7 +80,7 @@ pub enum Faulty {
 }
 
 pub fn faulty_device(summary: u16) -> Faulty
-    ensures { result ≡ faultyOf summary }
+    ensures { result ≡ faulty_of summary }
 {
     if summary == 1 {
         return Faulty::One(Device::P);
@@ -98,7 +98,7 @@ pub fn faulty_device(summary: u16) -> Faulty
 // room, and their summary. A whole chunk without differences, the common case, is told by one test. Any
 // guess may be given; the summary of the columns before is found fastest.
 pub fn verdicts_of(n: usize, p: &[u8; WIDTH], q: &[u8; WIDTH], guess: u16, room: &mut [u16]) -> u16
-    ensures { WithSummary (verdictsOf n p.now q.now (length room.old)) result room.new }
+    ensures { WithSummary (verdicts_of n p.now q.now (length room.old)) result room.new }
 {
     if room.len() == WIDTH {
         if chunk::are_zero(p, q) {
@@ -129,7 +129,7 @@ pub fn verdicts_by_place(
     guess: u16,
     room: &mut [u16],
 ) -> u16
-    ensures { WithSummary (verdictsOf n p.now q.now (length room.old)) result room.new }
+    ensures { WithSummary (verdicts_of n p.now q.now (length room.old)) result room.new }
 {
     let p_bytes: &[u8] = p;
     let q_bytes: &[u8] = q;
@@ -147,7 +147,7 @@ pub fn verdicts_by_place(
 // not agree. A verdict depends on Q*/P* alone, so that they agree where Q* is the same multiple of P* at
 // every place. The multiple that is guessed is tried first: it needs no division.
 fn common_verdict(n: usize, p: [u8; WIDTH], q: [u8; WIDTH], guess: u16) -> u16
-    ensures { result ≢ mixed → WithSummary (verdictsOf n p q width) result (each (unclean result p q)) }
+    ensures { result ≢ mixed → WithSummary (verdicts_of n p q width) result (each (unclean result p q)) }
 {
     if chunk::are_zero(&p, &p) {
         if chunk::are_zero(&q, &q) { 0 } else { 2 }
@@ -163,8 +163,8 @@ fn common_verdict(n: usize, p: [u8; WIDTH], q: [u8; WIDTH], guess: u16) -> u16
 
 // The common verdict where Q* is c P* at every place, and MIXED where it is not.
 fn verdict_by(n: usize, p: [u8; WIDTH], q: [u8; WIDTH], c: Element) -> u16
-    requires { allZero p p ≡ false }
-    ensures { result ≢ mixed → WithSummary (verdictsOf n p q width) result (each (unclean result p q)) }
+    requires { all_zero p p ≡ false }
+    ensures { result ≢ mixed → WithSummary (verdicts_of n p q width) result (each (unclean result p q)) }
 {
     let mut rest = q;
     products::add_product(&mut rest, c, p);
@@ -229,7 +229,7 @@ fn fill_unclean(p: &[u8; WIDTH], q: &[u8; WIDTH], v: u16, room: &mut [u16])
 }
 
 fn one_by_one(n: usize, p: &[u8], q: &[u8], room: &mut [u16]) -> u16
-    ensures { WithSummary (verdictsOf n p.now q.now (length room.old)) result room.new }
+    ensures { WithSummary (verdicts_of n p.now q.now (length room.old)) result room.new }
 {
     let mut found = 0;
     let mut j = 0;

@@ -2,7 +2,7 @@
 ghost use Rattle.std.specs.Prelude.{◌≡◌, ◌+◌, ◌<◌, ◌≤◌, length, get_or};
 ghost use Rattle.gf256.specs.Field.{power};
 ghost use Rattle.chunk.specs.Chunk.{width};
-ghost use Rattle.column.specs.Column.{reedSolomon, writeColumn};
+ghost use Rattle.column.specs.Column.{reed_solomon, write_column};
 ghost use Rattle.shape.specs.Refusals.{WellShaped};
 ghost use Rattle.shape.specs.Columns.{ColumnsMapped};
 ghost use Rattle.stretch.specs.Stretch.{Has};
@@ -27,7 +27,7 @@ pub fn write(g: Geometry, stripe: &mut [u8], disk: usize, offset: usize, new: &[
 
 fn write_all(g: Geometry, stripe: &mut [u8], disk: usize, offset: usize, new: &[u8])
     requires { WellShaped g stripe.old × (offset + length new.now ≤ g.b) × (disk < g.n) }
-    ensures { ColumnsMapped g offset (length new.now) (λ j col. writeColumn reedSolomon g.n disk (get_or new.now j 0) col) stripe.old stripe.new }
+    ensures { ColumnsMapped g offset (length new.now) (λ j col. write_column reed_solomon g.n disk (get_or new.now j 0) col) stripe.old stripe.new }
 {
     let c = Element(2).power(disk as u64);
     let mut j = 0;
@@ -44,7 +44,7 @@ fn write_all(g: Geometry, stripe: &mut [u8], disk: usize, offset: usize, new: &[
 // byte is stored.
 fn write_chunk(g: Geometry, stripe: &mut [u8], disk: usize, i: usize, c: Element, new: &[u8])
     requires { Has g stripe.old i (length new.now) × (disk < g.n) × (c.0 ≡ power 2 disk) × (length new.now ≡ width) }
-    ensures { ColumnsMapped g i (length new.now) (λ j col. writeColumn reedSolomon g.n disk (get_or new.now j 0) col) stripe.old stripe.new }
+    ensures { ColumnsMapped g i (length new.now) (λ j col. write_column reed_solomon g.n disk (get_or new.now j 0) col) stripe.old stripe.new }
 {
     // The columns are there. Tested once here, they cost no test in the six calls below.
     if !stretch::has_columns(g, stripe.len(), i, WIDTH) {
@@ -65,7 +65,7 @@ fn write_chunk(g: Geometry, stripe: &mut [u8], disk: usize, i: usize, c: Element
 // The same for less than a chunk.
 fn write_part(g: Geometry, stripe: &mut [u8], disk: usize, i: usize, c: Element, new: &[u8])
     requires { Has g stripe.old i (length new.now) × (disk < g.n) × (c.0 ≡ power 2 disk) }
-    ensures { ColumnsMapped g i (length new.now) (λ j col. writeColumn reedSolomon g.n disk (get_or new.now j 0) col) stripe.old stripe.new }
+    ensures { ColumnsMapped g i (length new.now) (λ j col. write_column reed_solomon g.n disk (get_or new.now j 0) col) stripe.old stripe.new }
 {
     let w = new.len();
     let old = stretch::load(g, stripe, disk, i, w);

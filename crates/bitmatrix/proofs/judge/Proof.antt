@@ -10,14 +10,14 @@ use borrow.Author.Rules.{rules}
 use borrow.Author.Tests.{eq-eqb, ne_eqb, lt-ltb, le-ltb}
 use Rattle.findings.specs.Findings.{Code, finding}
 use Rattle.findings.specs.declared.Finding.{Finding}
-use Rattle.bitmatrix.specs.Judge.{ones, minimal, refusal, answer_of, refusedOr, judged, Judges}
+use Rattle.bitmatrix.specs.Judge.{ones, minimal, refusal, answer_of, refused_or, judged, Judges}
 use Rattle.bitmatrix.specs.declared.Judgement.{Judgement}
 use Rattle.bitmatrix.specs.declared.Judgement.TheVariants.{Judged}
 use Rattle.bitmatrix.proofs.judge.Statement.{statement}
 use Rattle.bitmatrix.proofs.judge.Tie as tie
 
 -- a call that is not refused has the result number 0 and its values
-valued : (n : ℕ) (j : Judgement) → (answer_of j).number ≡ 0 → answer_of (refusedOr n j) ≡ answered n (answer_of j).values
+valued : (n : ℕ) (j : Judgement) → (answer_of j).number ≡ 0 → answer_of (refused_or n j) ≡ answered n (answer_of j).values
 valued zero j e = ap (λ (k : ℕ). record { number = k; values = (answer_of j).values }) e
 valued (suc n) j e = refl
 
@@ -64,8 +64,8 @@ returns-3 c = answers c.before _ _ c.if3.true refl
 returns-4 : tie.Need-returns-4
 returns-4 c = answers c.before _ _ c.if3.false (sym c.if3.false)
 
-pub judge-spec : {M : Type 1} → statement M
-judge-spec =
+pub judge_spec : {M : Type 1} → statement M
+judge_spec =
     tie.close
     (tie.spec
     returns

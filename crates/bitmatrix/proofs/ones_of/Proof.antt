@@ -9,7 +9,7 @@ use Rattle.matrix.specs.Matrix.{weight}
 use Rattle.findings.specs.Findings.{X}
 use Rattle.bitmatrix.specs.Judge.{ones}
 use Rattle.matrix.proofs.Fold.{fold_more}
-use Rattle.bitmatrix.proofs.Weight.{matrices-le}
+use Rattle.bitmatrix.proofs.Weight.{matrices_le}
 use Rattle.bitmatrix.proofs.ones_of.Statement.{statement}
 use Rattle.bitmatrix.proofs.ones_of.Tie as tie
 
@@ -39,7 +39,7 @@ more : (c : tie.After-weight-of invariant-loop decreases-loop)
 more c = ap₂ ◌+◌ c.before.before.before.loop.invariant.1 c.weight-of.ensures ∙ sym (fold_more ◌+◌ 0 _ _)
 
 add-n : tie.Need-overflow-add-n invariant-loop decreases-loop
-add-n c = omega (arith, more c, matrices-le c.before.before.before.before.args.t1 (c.before.before.before.loop.i + 1))
+add-n c = omega (arith, more c, matrices_le c.before.before.before.before.args.t1 (c.before.before.before.loop.i + 1))
 
 add-i : tie.Need-overflow-add-i invariant-loop decreases-loop
 add-i c = search rules
@@ -54,8 +54,8 @@ returns : tie.Need-returns invariant-loop decreases-loop
 unfolding ones
 returns c = let all-counted : c.before.loop.i ≡ c.before.before.args.count = omega arith in rw all-counted at c.before.loop.invariant.1
 
-pub ones-of-spec : {M : Type 1} → statement M
-ones-of-spec =
+pub ones_of_spec : {M : Type 1} → statement M
+ones_of_spec =
     tie.close
     (tie.spec
     invariant-loop

@@ -4,7 +4,7 @@ use mathlib.Core.Path.{refl, sym}
 use native.Mathlib.Omega.{arith}
 use borrow.Author.Rules.{rules}
 use lib.Seq.{take_all, length-take-le}
-use Rattle.buffers.proofs.Buffers.{input-answered}
+use Rattle.buffers.proofs.Buffers.{input_answered}
 use Rattle.buffers.proofs.answer_input.Statement.{statement}
 use Rattle.buffers.proofs.answer_input.Tie as tie
 
@@ -20,11 +20,11 @@ answer-requires-2 c κs = search rules
 returns : tie.Need-returns
 returns c =
     let a = c.before.before.before.before.args in
-    input-answered (omega arith, omega arith) (sym (take_all a.read a.input.now (omega arith))) c.answer.ensures
+    input_answered (omega arith, omega arith) (sym (take_all a.read a.input.now (omega arith))) c.answer.ensures
 
 returns-2 : tie.Need-returns-2
-returns-2 c = input-answered (omega arith, omega arith) refl c.answer2.ensures
+returns-2 c = input_answered (omega arith, omega arith) refl c.answer2.ensures
 
-pub answer-input-spec : {M : Type 1} → statement M
-answer-input-spec =
+pub answer_input_spec : {M : Type 1} → statement M
+answer_input_spec =
     tie.close (tie.spec answer-requires slice-aggregate-answer answer-requires-2 returns returns-2)

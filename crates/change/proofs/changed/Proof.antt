@@ -5,20 +5,20 @@ use mathlib.Core.Path.{◌≡◌, ap₂, ◌∙◌}
 use mathlib.Core.List.{List}
 use Prim.Native.Nat.{ℕ}
 use lib.ListN.{get_or}
-use Rattle.base.proofs.Table.{get_d_tabulate, tabulate-same}
+use Rattle.base.proofs.Table.{get_d_tabulate, tabulate_same}
 use Rattle.gf256.specs.Field.{sum, product}
 use Rattle.chunk.specs.Chunk.{width, plus}
-use Rattle.products.specs.Products.{plusProduct}
+use Rattle.products.specs.Products.{plus_product}
 use Rattle.change.specs.declared.Parities.{Parities}
-use Rattle.change.specs.Changed.{changedBy}
+use Rattle.change.specs.Changed.{changed_by}
 use Rattle.change.proofs.changed.Statement.{statement}
 use Rattle.change.proofs.changed.Tie as tie
 
 -- the steps: what changed, added to P and, times the coefficient, to Q
-steps : (c : ℕ) (old new p q : List ℕ) {change p' q' : List ℕ} → change ≡ plus old new → p' ≡ plus p change → q' ≡ plusProduct q c change
-    → ◌≡◌ {A = Parities} (record { p = p'; q = q' }) (changedBy c old new p q)
+steps : (c : ℕ) (old new p q : List ℕ) {change p' q' : List ℕ} → change ≡ plus old new → p' ≡ plus p change → q' ≡ plus_product q c change
+    → ◌≡◌ {A = Parities} (record { p = p'; q = q' }) (changed_by c old new p q)
 steps c old new p q is first second =
-    ap₂ (λ (p q : List ℕ). record { p = p; q = q }) (first ∙ tabulate-same width (λ j h. rw (is, get_d_tabulate))) (second ∙ tabulate-same width (λ j h. rw (is, get_d_tabulate)))
+    ap₂ (λ (p q : List ℕ). record { p = p; q = q }) (first ∙ tabulate_same width (λ j h. rw (is, get_d_tabulate))) (second ∙ tabulate_same width (λ j h. rw (is, get_d_tabulate)))
 
 add-requires : tie.Need-add-requires
 add-requires c κs = search rules
@@ -33,5 +33,5 @@ returns : tie.Need-returns
 returns c =
     let a = c.before.before.before.before.before.before.before.before.args in steps a.c.0 a.old a.t3 a.p a.q c.before.before.before.before.before.add.ensures c.before.before.add2.ensures c.add-product.ensures
 
-pub changed-spec : {M : Type 1} → statement M
-changed-spec = tie.close (tie.spec add-requires add-requires-2 add-product-requires returns)
+pub changed_spec : {M : Type 1} → statement M
+changed_spec = tie.close (tie.spec add-requires add-requires-2 add-product-requires returns)

@@ -5,7 +5,7 @@ use native.Mathlib.Omega.{arith}
 use borrow.Author.Rules.{rules}
 use lib.ListN.{get_or}
 use Rattle.gf256.specs.Field.{sum}
-use Rattle.base.proofs.Fill.{Filled, fill_none, fill_more, fill-all}
+use Rattle.base.proofs.Fill.{Filled, fill_none, fill_more, fill_all}
 use Rattle.chunk.specs.Chunk.{width}
 use Rattle.chunk.proofs.add.Statement.{statement}
 use Rattle.chunk.proofs.add.Tie as tie
@@ -41,7 +41,7 @@ loop-again : tie.Need-loop-preserved invariant-loop decreases-loop
 loop-again c = (omega arith, fill_more c.before.before.before.before.loop.invariant.1 (omega arith) c.sum.ensures)
 
 returns : tie.Need-returns invariant-loop decreases-loop
-returns c = fill-all c.before.loop.invariant.1 (omega arith)
+returns c = fill_all c.before.loop.invariant.1 (omega arith)
 
 pub add_spec : {M : Type 1} → statement M
 add_spec =

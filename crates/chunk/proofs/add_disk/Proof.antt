@@ -6,7 +6,7 @@ use native.Mathlib.Omega.{arith}
 use borrow.Author.Rules.{rules}
 use lib.ListN.{get_or}
 use Rattle.gf256.specs.Field.{sum, double}
-use Rattle.base.proofs.Fill.{Filled, fill_none, fill_more, fill-all}
+use Rattle.base.proofs.Fill.{Filled, fill_none, fill_more, fill_all}
 use Rattle.chunk.specs.Chunk.{width}
 use Rattle.chunk.proofs.add_disk.Statement.{statement}
 use Rattle.chunk.proofs.add_disk.Tie as tie
@@ -63,10 +63,10 @@ loop-again c =
 
 returns : tie.Need-returns invariant-loop decreases-loop
 returns c =
-    (fill-all c.before.loop.invariant.1 (omega arith), fill-all c.before.loop.invariant.2 (omega arith))
+    (fill_all c.before.loop.invariant.1 (omega arith), fill_all c.before.loop.invariant.2 (omega arith))
 
-pub add-disk-spec : {M : Type 1} → statement M
-add-disk-spec =
+pub add_disk_spec : {M : Type 1} → statement M
+add_disk_spec =
     tie.close
     (tie.spec
     invariant-loop

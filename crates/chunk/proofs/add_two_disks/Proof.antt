@@ -6,8 +6,8 @@ use native.Mathlib.Omega.{arith}
 use borrow.Author.Rules.{rules}
 use lib.ListN.{get_or}
 use Rattle.gf256.specs.Field.{sum, double}
-use Rattle.base.proofs.Fill.{Filled, fill_none, fill_more, fill-all}
-use Rattle.base.proofs.Table.{tabulate-same}
+use Rattle.base.proofs.Fill.{Filled, fill_none, fill_more, fill_all}
+use Rattle.base.proofs.Table.{tabulate_same}
 use Rattle.chunk.specs.Chunk.{width}
 use Rattle.chunk.proofs.Laws.{each_at}
 use Rattle.chunk.proofs.add_two_disks.Statement.{statement}
@@ -81,12 +81,12 @@ loop-again c =
 returns : tie.Need-returns invariant-loop decreases-loop
 returns c =
     let l = c.before.loop in (
-      fill-all l.invariant.1 (omega arith) ∙ tabulate-same width (λ j h. ap₂ sum (sym (each_at _ j h)) refl),
-      fill-all l.invariant.2 (omega arith) ∙ tabulate-same width (λ j h. ap₂ sum (ap double (sym (each_at _ j h))) refl),
+      fill_all l.invariant.1 (omega arith) ∙ tabulate_same width (λ j h. ap₂ sum (sym (each_at _ j h)) refl),
+      fill_all l.invariant.2 (omega arith) ∙ tabulate_same width (λ j h. ap₂ sum (ap double (sym (each_at _ j h))) refl),
     )
 
-pub add-two-disks-spec : {M : Type 1} → statement M
-add-two-disks-spec =
+pub add_two_disks_spec : {M : Type 1} → statement M
+add_two_disks_spec =
     tie.close
     (tie.spec
     invariant-loop

@@ -6,7 +6,7 @@ use native.Mathlib.Numerals.{add-one}
 use native.Mathlib.Omega.{arith}
 use lib.Dec.{eqb}
 use Rattle.chunk.specs.Chunk.{width, zeros}
-use Rattle.chunk.proofs.Zeros.{zeros-more}
+use Rattle.chunk.proofs.Zeros.{zeros_more}
 use Rattle.chunk.proofs.are_zero.Statement.{statement}
 use Rattle.chunk.proofs.are_zero.Tie as tie
 
@@ -35,7 +35,7 @@ loop-again : tie.Need-loop-preserved invariant-loop decreases-loop
 loop-again c =
     let a = c.before.before.before.before.args in
     let l = c.before.before.before.loop in
-    (omega arith, rw add-one (zeros-more a.p.now a.q.now l.j l.r l.invariant.1))
+    (omega arith, rw add-one (zeros_more a.p.now a.q.now l.j l.r l.invariant.1))
 
 returns : tie.Need-returns invariant-loop decreases-loop
 returns c =
@@ -43,8 +43,8 @@ returns c =
     let l = c.before.loop in
     l.invariant.1 ∙ ap (λ (n : ℕ). zeros n a.p.now a.q.now) (omega arith)
 
-pub are-zero-spec : {M : Type 1} → statement M
-are-zero-spec =
+pub are_zero_spec : {M : Type 1} → statement M
+are_zero_spec =
     tie.close
     (tie.spec
     invariant-loop

@@ -7,7 +7,7 @@ use borrow.Author.Tests.{lt-ltb, le-ltb}
 use lib.Dec.{ltb}
 use lib.ListN.{length, get_or}
 use Rattle.base.specs.Choice.{choose}
-use Rattle.base.proofs.Fill.{Filled, fill_none, fill_more, fill-rest}
+use Rattle.base.proofs.Fill.{Filled, fill_none, fill_more, fill_rest}
 use Rattle.chunk.proofs.copy.Statement.{statement}
 use Rattle.chunk.proofs.copy.Tie as tie
 
@@ -44,7 +44,7 @@ same_length c = c.before.loop.invariant.1.long
 returns : tie.Need-returns invariant-loop decreases-loop
 returns c =
     let count = c.before.before.args.count in
-    fill-rest c.before.loop.invariant.1 (λ j p q. rw (le-ltb j count (omega arith)))
+    fill_rest c.before.loop.invariant.1 (λ j p q. rw (le-ltb j count (omega arith)))
 
 pub copy_spec : {M : Type 1} → statement M
 copy_spec =

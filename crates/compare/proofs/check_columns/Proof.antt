@@ -8,7 +8,7 @@ use borrow.Rule.Slice.PartMut.{put_mid}
 use lib.ListN.{length}
 use Rattle.base.proofs.Tails.{part_length}
 use Rattle.chunk.specs.Chunk.{width}
-use Rattle.compare.proofs.CheckedBelow.{CheckedBelow, room_fits, checked-none, checked-more, checked-all}
+use Rattle.compare.proofs.CheckedBelow.{CheckedBelow, room_fits, checked_none, checked_more, checked_all}
 use Rattle.compare.proofs.check_columns.Statement.{statement}
 use Rattle.compare.proofs.check_columns.Tie as tie
 
@@ -26,15 +26,15 @@ holds c =
     let fits = room_fits here.args.keep here.requires.1 l.i width (omega arith) (omega arith) in
     (omega arith, omega arith)
 
-holds-part : (c : tie.After-place2 invariant-loop decreases-loop) → let l = c.before.before.before.before.before.before.loop in let w = c.before.before.before.before.before.before.before.before.before.args.g.b - l.i in (c.place2.result ≤ l.i) × (c.place2.result + w ≤ length l.room)
-holds-part c =
+holds_part : (c : tie.After-place2 invariant-loop decreases-loop) → let l = c.before.before.before.before.before.before.loop in let w = c.before.before.before.before.before.before.before.before.before.args.g.b - l.i in (c.place2.result ≤ l.i) × (c.place2.result + w ≤ length l.room)
+holds_part c =
     let here = c.before.before.before.before.before.before.before.before.before in
     let l = c.before.before.before.before.before.before.loop in
     let fits = room_fits here.args.keep here.requires.1 l.i (here.args.g.b - l.i) (omega arith) (omega arith) in
     (omega arith, omega arith)
 
 loop-holds : tie.Need-loop-init invariant-loop decreases-loop
-loop-holds c = checked-none c.before.before.requires.1
+loop-holds c = checked_none c.before.before.requires.1
 
 sub-if1 : tie.Need-overflow-sub-if1 invariant-loop decreases-loop
 sub-if1 c = omega arith
@@ -77,7 +77,7 @@ loop-again : tie.Need-loop-preserved invariant-loop decreases-loop
 loop-again c =
     let l = c.before.before.before.before.before.before.before.before.loop in
     let placed = c.before.before.before.before.before in
-    checked-more l.i width l.invariant (omega arith) (omega arith) (omega arith) placed.place.ensures (holds placed).1 c.before.before.before.check-chunk.ensures c.joined.ensures
+    checked_more l.i width l.invariant (omega arith) (omega arith) (omega arith) placed.place.ensures (holds placed).1 c.before.before.before.check-chunk.ensures c.joined.ensures
 
 sub-w : tie.Need-overflow-sub-w invariant-loop decreases-loop
 sub-w c = omega arith
@@ -86,10 +86,10 @@ place-requires-2 : tie.Need-place-requires-2 invariant-loop decreases-loop
 place-requires-2 c κs = search rules
 
 add-check-part : tie.Need-overflow-add-check-part invariant-loop decreases-loop
-add-check-part c = omega (arith, holds-part c)
+add-check-part c = omega (arith, holds_part c)
 
 mul-check-part : tie.Need-overflow-mul-check-part invariant-loop decreases-loop
-mul-check-part c = omega (arith, holds-part c)
+mul-check-part c = omega (arith, holds_part c)
 
 sub-check-part : tie.Need-overflow-sub-check-part invariant-loop decreases-loop
 sub-check-part c = omega arith
@@ -98,13 +98,13 @@ part-check-part-start : tie.Need-slice-bounds-check-part-start invariant-loop de
 part-check-part-start c = omega arith
 
 part-check-part-end : tie.Need-slice-bounds-check-part-end invariant-loop decreases-loop
-part-check-part-end c = omega (arith, holds-part c)
+part-check-part-end c = omega (arith, holds_part c)
 
 check-part-requires : tie.Need-check-part-requires invariant-loop decreases-loop
 check-part-requires c κs =
     let l = c.before.before.before.before.before.before.before.loop in
     let at = c.before.place2.result in
-    let size = part_length l.room at (at + (c.before.before.before.before.before.before.before.before.before.before.args.g.b - l.i)) (omega arith) (holds-part c.before).1 in
+    let size = part_length l.room at (at + (c.before.before.before.before.before.before.before.before.before.before.args.g.b - l.i)) (omega arith) (holds_part c.before).1 in
     record { shaped = c.before.before.before.before.before.before.before.before.before.before.requires.0; fits = omega arith; held = omega arith }
 
 joined-requires-2 : tie.Need-joined-requires-2 invariant-loop decreases-loop
@@ -115,22 +115,22 @@ all : (c : tie.After-joined2 invariant-loop decreases-loop) → let a = c.before
 all c =
     let l = c.before.before.before.before.before.before.before.before.before.before.before.loop in
     let placed = c.before.before.before.before.before in
-    checked-more l.i (c.before.before.before.before.before.before.before.before.before.before.before.before.before.before.args.g.b - l.i) l.invariant (omega arith) (omega arith) (omega arith) placed.place2.ensures (holds-part placed).1 c.before.before.before.check-part.ensures c.joined2.ensures
+    checked_more l.i (c.before.before.before.before.before.before.before.before.before.before.before.before.before.before.args.g.b - l.i) l.invariant (omega arith) (omega arith) (omega arith) placed.place2.ensures (holds_part placed).1 c.before.before.before.check-part.ensures c.joined2.ensures
 
 same_length : tie.Need-same-length invariant-loop decreases-loop
 same_length c = (all c).long
 
 returns : tie.Need-returns invariant-loop decreases-loop
-returns c = checked-all (all c) (omega arith)
+returns c = checked_all (all c) (omega arith)
 
 same-length-2 : tie.Need-same-length-2 invariant-loop decreases-loop
 same-length-2 c = c.before.before.before.before.loop.invariant.long
 
 returns-2 : tie.Need-returns-2 invariant-loop decreases-loop
-returns-2 c = let l = c.before.before.before.before.loop in checked-all l.invariant (omega arith)
+returns-2 c = let l = c.before.before.before.before.loop in checked_all l.invariant (omega arith)
 
-pub check-columns-spec : {M : Type 1} → statement M
-check-columns-spec =
+pub check_columns_spec : {M : Type 1} → statement M
+check_columns_spec =
     tie.close
     (tie.spec
     invariant-loop

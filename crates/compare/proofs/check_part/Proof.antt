@@ -4,14 +4,14 @@ use borrow.Author.Rules.{rules}
 use mathlib.Core.Path.{ap, ap₂, ◌∙◌}
 use Prim.Native.Nat.{ℕ, ◌+◌}
 use lib.ListN.{length}
-use Rattle.base.proofs.Table.{tabulate-same}
-use Rattle.column.specs.Column.{Column, syndromeP, syndromeQ, reedSolomon, verdictOf}
+use Rattle.base.proofs.Table.{tabulate_same}
+use Rattle.column.specs.Column.{Column, syndrome_p, syndrome_q, reed_solomon, verdict_of}
 use Rattle.losses.specs.Losses.{without}
-use Rattle.losses.proofs.Without.{none-lost}
+use Rattle.losses.proofs.Without.{none_lost}
 use Rattle.shape.specs.Layout.{column}
 use Rattle.stretch.proofs.Laws.{seen}
 use Rattle.sums.specs.declared.Sums.{Sums}
-use Rattle.verdict.proofs.Summary.{summary-as}
+use Rattle.verdict.proofs.Summary.{summary_as}
 use Rattle.compare.proofs.check_part.Statement.{statement}
 use Rattle.compare.proofs.check_part.Tie as tie
 
@@ -38,13 +38,13 @@ returns c =
     let n = a.g.n in
     let e : ℕ → Column = λ j. column a.g a.stripe.now (a.i + j) in
     let sums = c.before.before.before.before.before.before.before.before.part-survivors.ensures in
-    summary-as
-    (tabulate-same (length a.room.now)
-    (λ j l. ap₂ (verdictOf n) (seen h (λ c. syndromeP n (without (n + 2) (n + 2) c)) (ap (λ (r : Sums). r.p) sums) j l ∙ (none-lost n (e j)).0) (seen h (λ c. syndromeQ reedSolomon n (without (n + 2) (n + 2) c)) (ap (λ (r : Sums). r.q) sums) j l ∙ (none-lost n (e j)).1)))
+    summary_as
+    (tabulate_same (length a.room.now)
+    (λ j l. ap₂ (verdict_of n) (seen h (λ c. syndrome_p n (without (n + 2) (n + 2) c)) (ap (λ (r : Sums). r.p) sums) j l ∙ (none_lost n (e j)).0) (seen h (λ c. syndrome_q reed_solomon n (without (n + 2) (n + 2) c)) (ap (λ (r : Sums). r.q) sums) j l ∙ (none_lost n (e j)).1)))
     c.before.before.verdicts-by-place.ensures
 
-pub check-part-spec : {M : Type 1} → statement M
-check-part-spec =
+pub check_part_spec : {M : Type 1} → statement M
+check_part_spec =
     tie.close
     (tie.spec
     add-part-survivors

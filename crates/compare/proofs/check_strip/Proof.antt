@@ -9,14 +9,14 @@ use borrow.Rule.Slice.PartMut.{put_mid, Post-is}
 use lib.ListN.{length, get_or, take, drop}
 use Rattle.base.specs.Table.{tabulate}
 use Rattle.base.proofs.Tails.{part_length}
-use Rattle.base.proofs.Table.{tabulate-same}
+use Rattle.base.proofs.Table.{tabulate_same}
 use Rattle.chunk.specs.Chunk.{width}
-use Rattle.column.specs.Column.{verdict, verdictOf, syndromeP, syndromeQ, reedSolomon}
-use Rattle.losses.proofs.Without.{none-lost}
+use Rattle.column.specs.Column.{verdict, verdict_of, syndrome_p, syndrome_q, reed_solomon}
+use Rattle.losses.proofs.Without.{none_lost}
 use Rattle.shape.specs.Layout.{column}
 use Rattle.sums.specs.Strip.{strip}
-use Rattle.sums.proofs.Strips.{strip-length, chunk-seen}
-use Rattle.verdict.proofs.Summary.{FilledWithSummary, summary-filled-none, summary-filled-part, summary-filled-all, summary-as}
+use Rattle.sums.proofs.Strips.{strip_length, chunk_seen}
+use Rattle.verdict.proofs.Summary.{FilledWithSummary, summary_filled_none, summary_filled_part, summary_filled_all, summary_as}
 use Rattle.compare.proofs.check_strip.Statement.{statement}
 use Rattle.compare.proofs.check_strip.Tie as tie
 
@@ -33,7 +33,7 @@ long c =
     let here = c.before.before.before.before.before.before.before in
     let n = here.args.g.n in
     let sums = c.strip-survivors.ensures in
-    (strip-length here.requires.0 (n + 2) (n + 2) (syndromeP n) _ sums.first, strip-length here.requires.0 (n + 2) (n + 2) (syndromeQ reedSolomon n) _ sums.second)
+    (strip_length here.requires.0 (n + 2) (n + 2) (syndrome_p n) _ sums.first, strip_length here.requires.0 (n + 2) (n + 2) (syndrome_q reed_solomon n) _ sums.second)
 
 add-strip-survivors : tie.Need-overflow-add-strip-survivors invariant-loop decreases-loop
 add-strip-survivors c = omega (arith, c.before.before.before.requires.0.shaped.disks)
@@ -45,7 +45,7 @@ strip-survivors-requires : tie.Need-strip-survivors-requires invariant-loop decr
 strip-survivors-requires c κs = search rules
 
 loop-holds : tie.Need-loop-init invariant-loop decreases-loop
-loop-holds c = (omega arith, summary-filled-none c.before.before.before.before.before.before.before.requires.1)
+loop-holds c = (omega arith, summary_filled_none c.before.before.before.before.before.before.before.requires.1)
 
 mul-c : tie.Need-overflow-mul-c invariant-loop decreases-loop
 mul-c c = omega arith
@@ -118,12 +118,12 @@ loop-again c =
     let next : k + width ≡ width * (l.m + 1) = omega arith in
     let size : length (take (k + width - k) (drop k l.room)) ≡ width = part_length l.room k (k + width) (omega arith) (omega (arith, fits, l.invariant.1.filled.long)) ∙ omega arith in
     let sums = c.before.before.before.before.before.before.before.before.before.before.before.before.before.before.before.strip-survivors.ensures in
-    let of-p = chunk-seen here.requires.0 k fits (n + 2) (n + 2) (syndromeP n) _ sums.first c.before.before.before.before.before.before.before.before.before.before.load.ensures in
-    let of-q = chunk-seen here.requires.0 k fits (n + 2) (n + 2) (syndromeQ reedSolomon n) _ sums.second c.before.before.before.before.before.before.before.load2.ensures in
-    let told : tabulate (length (take (k + width - k) (drop k l.room))) (λ j. verdictOf n (get_or c.before.before.before.before.before.before.before.before.before.before.load.result j 0) (get_or c.before.before.before.before.before.before.before.load2.result j 0)) ≡ tabulate width (λ j. verdict n (column a.g a.stripe.now (a.i + (k + j)))) =
-    ap (λ (w : ℕ). tabulate w (λ j. verdictOf n (get_or c.before.before.before.before.before.before.before.before.before.before.load.result j 0) (get_or c.before.before.before.before.before.before.before.load2.result j 0))) size
-    ∙ tabulate-same width (λ j h. ap₂ (verdictOf n) (of-p j h ∙ (none-lost n (column a.g a.stripe.now (a.i + k + j))).0) (of-q j h ∙ (none-lost n (column a.g a.stripe.now (a.i + k + j))).1) ∙ ap (λ (i : ℕ). verdict n (column a.g a.stripe.now i)) (omega arith)) in
-    (omega (arith, fits), subst (λ (e : ℕ). FilledWithSummary (λ j. verdict n (column a.g a.stripe.now (a.i + j))) strip a.room.now (put_mid k (k + width - k) l.room c.before.before.before.verdicts-of.new.1.1.1.1.0) e c.joined.result) next (summary-filled-part width l.invariant.1 fits (summary-as told c.before.before.before.verdicts-of.ensures) (Post-is k (k + width) l.room (omega arith)) c.joined.ensures))
+    let of-p = chunk_seen here.requires.0 k fits (n + 2) (n + 2) (syndrome_p n) _ sums.first c.before.before.before.before.before.before.before.before.before.before.load.ensures in
+    let of-q = chunk_seen here.requires.0 k fits (n + 2) (n + 2) (syndrome_q reed_solomon n) _ sums.second c.before.before.before.before.before.before.before.load2.ensures in
+    let told : tabulate (length (take (k + width - k) (drop k l.room))) (λ j. verdict_of n (get_or c.before.before.before.before.before.before.before.before.before.before.load.result j 0) (get_or c.before.before.before.before.before.before.before.load2.result j 0)) ≡ tabulate width (λ j. verdict n (column a.g a.stripe.now (a.i + (k + j)))) =
+    ap (λ (w : ℕ). tabulate w (λ j. verdict_of n (get_or c.before.before.before.before.before.before.before.before.before.before.load.result j 0) (get_or c.before.before.before.before.before.before.before.load2.result j 0))) size
+    ∙ tabulate_same width (λ j h. ap₂ (verdict_of n) (of-p j h ∙ (none_lost n (column a.g a.stripe.now (a.i + k + j))).0) (of-q j h ∙ (none_lost n (column a.g a.stripe.now (a.i + k + j))).1) ∙ ap (λ (i : ℕ). verdict n (column a.g a.stripe.now i)) (omega arith)) in
+    (omega (arith, fits), subst (λ (e : ℕ). FilledWithSummary (λ j. verdict n (column a.g a.stripe.now (a.i + j))) strip a.room.now (put_mid k (k + width - k) l.room c.before.before.before.verdicts-of.new.1.1.1.1.0) e c.joined.result) next (summary_filled_part width l.invariant.1 fits (summary_as told c.before.before.before.verdicts-of.ensures) (Post-is k (k + width) l.room (omega arith)) c.joined.ensures))
 
 same_length : tie.Need-same-length invariant-loop decreases-loop
 same_length c = c.before.loop.invariant.1.filled.long ∙ sym c.before.before.before.before.before.before.before.before.before.requires.1
@@ -133,10 +133,10 @@ returns c =
     let here = c.before.before.before.before.before.before.before.before.before in
     let a = here.args in
     let l = c.before.loop in
-    summary-as (ap (λ (w : ℕ). tabulate w (λ j. verdict a.g.n (column a.g a.stripe.now (a.i + j)))) (sym here.requires.1)) (summary-filled-all l.invariant.1 (omega arith))
+    summary_as (ap (λ (w : ℕ). tabulate w (λ j. verdict a.g.n (column a.g a.stripe.now (a.i + j)))) (sym here.requires.1)) (summary_filled_all l.invariant.1 (omega arith))
 
-pub check-strip-spec : {M : Type 1} → statement M
-check-strip-spec =
+pub check_strip_spec : {M : Type 1} → statement M
+check_strip_spec =
     tie.close
     (tie.spec
     invariant-loop

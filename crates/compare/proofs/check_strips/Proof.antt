@@ -7,7 +7,7 @@ use native.Mathlib.Omega.{arith}
 use lib.ListN.{length}
 use Rattle.base.proofs.Tails.{part_length}
 use Rattle.sums.specs.Strip.{strip}
-use Rattle.compare.proofs.CheckedBelow.{CheckedBelow, room_fits, checked-none, checked-more, checked-all}
+use Rattle.compare.proofs.CheckedBelow.{CheckedBelow, room_fits, checked_none, checked_more, checked_all}
 use Rattle.compare.proofs.check_strips.Statement.{statement}
 use Rattle.compare.proofs.check_strips.Tie as tie
 
@@ -33,7 +33,7 @@ holds c =
     (omega arith, omega arith)
 
 loop-holds : tie.Need-loop-init invariant-loop decreases-loop
-loop-holds c = checked-none c.before.before.requires.2
+loop-holds c = checked_none c.before.before.requires.2
 
 next-start-requires : tie.Need-next-start-requires invariant-loop decreases-loop
 next-start-requires c κs = search rules
@@ -75,16 +75,16 @@ loop-again : tie.Need-loop-preserved invariant-loop decreases-loop
 loop-again c =
     let placed = c.before.before.before.before.before in
     let next = begins placed.before in
-    checked-more placed.before.next_start.result strip c.before.before.before.before.before.before.before.before.before.loop.invariant next.0 next.1 next.2 placed.place.ensures (holds placed).1 c.before.before.before.check-strip.ensures c.joined.ensures
+    checked_more placed.before.next_start.result strip c.before.before.before.before.before.before.before.before.before.loop.invariant next.0 next.1 next.2 placed.place.ensures (holds placed).1 c.before.before.before.check-strip.ensures c.joined.ensures
 
 same_length : tie.Need-same-length invariant-loop decreases-loop
 same_length c = c.before.before.loop.invariant.long
 
 returns : tie.Need-returns invariant-loop decreases-loop
-returns c = let l = c.before.before.loop in checked-all l.invariant (omega arith)
+returns c = let l = c.before.before.loop in checked_all l.invariant (omega arith)
 
-pub check-strips-spec : {M : Type 1} → statement M
-check-strips-spec =
+pub check_strips_spec : {M : Type 1} → statement M
+check_strips_spec =
     tie.close
     (tie.spec
     invariant-loop

@@ -13,5 +13,5 @@ returns-2 c = simp (ne_eqb _ _ c.before.if1.false, eq-eqb _ _ c.if2.true)
 returns-3 : tie.Need-returns-3
 returns-3 c = simp (ne_eqb _ _ c.before.if1.false, ne_eqb _ _ c.if2.false)
 
-pub summary-refusal-spec : {M : Type 1} → statement M
-summary-refusal-spec = tie.close (tie.spec returns returns-2 returns-3)
+pub summary_refusal_spec : {M : Type 1} → statement M
+summary_refusal_spec = tie.close (tie.spec returns returns-2 returns-3)

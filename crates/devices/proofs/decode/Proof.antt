@@ -28,5 +28,5 @@ unfolding named_by
 returns-5 c =
     simp (le-ltb _ _ c.before.before.before.if1.false, ne_eqb _ _ c.before.before.if2.false, ne_eqb _ _ c.before.if3.false, ne_eqb _ _ c.if4.false)
 
-pub decode-spec : {M : Type 1} → statement M
-decode-spec = tie.close (tie.spec returns returns-2 returns-3 returns-4 returns-5)
+pub decode_spec : {M : Type 1} → statement M
+decode_spec = tie.close (tie.spec returns returns-2 returns-3 returns-4 returns-5)

@@ -22,6 +22,6 @@ returns-2 c = search rules
 returns-3 : tie.Need-returns-3
 returns-3 c = search rules
 
-pub lacks-spec : {M : Type 1} → statement M
-lacks-spec =
+pub lacks_spec : {M : Type 1} → statement M
+lacks_spec =
     tie.close (tie.spec enum-known-device enum_told enum-told-2 returns returns-2 returns-3)

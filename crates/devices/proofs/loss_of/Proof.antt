@@ -37,8 +37,8 @@ returns-4 c = search rules
 returns-5 : tie.Need-returns-5
 returns-5 c = search rules
 
-pub loss-of-spec : {M : Type 1} → statement M
-loss-of-spec =
+pub loss_of_spec : {M : Type 1} → statement M
+loss_of_spec =
     tie.close
     (tie.spec
     enum-known-first

@@ -30,8 +30,8 @@ returns-2 c =
 returns-3 : tie.Need-returns-3
 returns-3 c = rw c.before.before.lost2.given.1 c.pair-refusal.ensures
 
-pub loss-refusal-spec : {M : Type 1} → statement M
-loss-refusal-spec =
+pub loss_refusal_spec : {M : Type 1} → statement M
+loss_refusal_spec =
     tie.close
     (tie.spec
     enum-known-lost

@@ -5,9 +5,9 @@ use mathlib.Core.Path.{refl, sym, ap, ◌∙◌}
 use mathlib.Core.Bool.{true, false}
 use mathlib.Core.List.{List, [], ◌∷◌}
 use Rattle.base.specs.Refusal.{Refusal}
-use Rattle.base.proofs.Refused.{refused-first, refused-then}
-use Rattle.shape.specs.Refusals.{library, shapeRefusals}
-use Rattle.devices.specs.Codes.{namedRefusal}
+use Rattle.base.proofs.Refused.{refused_first, refused_then}
+use Rattle.shape.specs.Refusals.{library, shape_refusals}
+use Rattle.devices.specs.Codes.{named_refusal}
 use Rattle.devices.proofs.named_refusal.Statement.{statement}
 use Rattle.devices.proofs.named_refusal.Tie as tie
 
@@ -33,20 +33,20 @@ encode-refusal-requires c κs = search rules
 returns : tie.Need-returns
 returns c =
     let a = c.before.before.before.before.before.args in
-    c.rebuild-refusal.ensures ∙ sym (ap (namedRefusal a.g a.len) (sym c.before.before.before.before.naming-of.ensures ∙ c.before.before.lost.given.1))
+    c.rebuild-refusal.ensures ∙ sym (ap (named_refusal a.g a.len) (sym c.before.before.before.before.naming-of.ensures ∙ c.before.before.lost.given.1))
 
 returns-2 : tie.Need-returns-2
 returns-2 c =
     let a = c.before.before.before.before.before.args in
-    refused-first (shapeRefusals library a.g a.len) unnamed c.before.encode-refusal.ensures c.if1.true ∙ sym (ap (namedRefusal a.g a.len) (sym c.before.before.before.before.naming-of.ensures ∙ c.before.before.enum_told.given.1))
+    refused_first (shape_refusals library a.g a.len) unnamed c.before.encode-refusal.ensures c.if1.true ∙ sym (ap (named_refusal a.g a.len) (sym c.before.before.before.before.naming-of.ensures ∙ c.before.before.enum_told.given.1))
 
 returns-3 : tie.Need-returns-3
 returns-3 c =
     let a = c.before.before.before.before.before.args in
-    refused-then (shapeRefusals library a.g a.len) unnamed c.before.encode-refusal.ensures refl c.if1.false refl ∙ sym (ap (namedRefusal a.g a.len) (sym c.before.before.before.before.naming-of.ensures ∙ c.before.before.enum_told.given.1))
+    refused_then (shape_refusals library a.g a.len) unnamed c.before.encode-refusal.ensures refl c.if1.false refl ∙ sym (ap (named_refusal a.g a.len) (sym c.before.before.before.before.naming-of.ensures ∙ c.before.before.enum_told.given.1))
 
-pub named-refusal-spec : {M : Type 1} → statement M
-named-refusal-spec =
+pub named_refusal_spec : {M : Type 1} → statement M
+named_refusal_spec =
     tie.close
     (tie.spec
     naming-of-requires

@@ -2,7 +2,7 @@
 -- Assumes nothing.
 use borrow.Author.Rules.{rules}
 use mathlib.Core.Path.{ap₂, ◌∙◌}
-use Rattle.devices.specs.Codes.{lossOf}
+use Rattle.devices.specs.Codes.{loss_of}
 use Rattle.devices.proofs.naming_of.Statement.{statement}
 use Rattle.devices.proofs.naming_of.Tie as tie
 
@@ -16,7 +16,7 @@ loss-of-requires : tie.Need-loss-of-requires
 loss-of-requires c κs = search rules
 
 returns : tie.Need-returns
-returns c = c.loss-of.ensures ∙ ap₂ lossOf c.before.before.decode.ensures c.before.decode2.ensures
+returns c = c.loss-of.ensures ∙ ap₂ loss_of c.before.before.decode.ensures c.before.decode2.ensures
 
-pub naming-of-spec : {M : Type 1} → statement M
-naming-of-spec = tie.close (tie.spec decode-requires decode-requires-2 loss-of-requires returns)
+pub naming_of_spec : {M : Type 1} → statement M
+naming_of_spec = tie.close (tie.spec decode-requires decode-requires-2 loss-of-requires returns)

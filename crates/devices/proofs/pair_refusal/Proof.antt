@@ -4,7 +4,7 @@ use borrow.Author.Rules.{rules}
 use mathlib.Core.Path.{sym, ◌∙◌}
 use mathlib.Core.Path.{◌≡◌}
 use mathlib.Core.Bool.{true, false}
-use Rattle.devices.specs.Refusals.{unknown, sameDevice}
+use Rattle.devices.specs.Refusals.{unknown, same_device}
 use Rattle.devices.proofs.pair_refusal.Statement.{statement}
 use Rattle.devices.proofs.pair_refusal.Tie as tie
 
@@ -35,7 +35,7 @@ returns-3 c =
     let a = c.before.before.before.before.before.before.args in
     let good : unknown a.g a.first ≡ false = sym c.before.before.before.before.before.lacks.ensures ∙ c.before.before.before.before.if1.false in
     let good2 : unknown a.g a.second ≡ false = sym c.before.before.before.lacks2.ensures ∙ c.before.before.if2.false in
-    let same : sameDevice a.first a.second ≡ true = sym c.before.same-device.ensures ∙ c.if3.true in
+    let same : same_device a.first a.second ≡ true = sym c.before.same-device.ensures ∙ c.if3.true in
     simp (good, good2, same)
 
 returns-4 : tie.Need-returns-4
@@ -43,11 +43,11 @@ returns-4 c =
     let a = c.before.before.before.before.before.before.args in
     let good : unknown a.g a.first ≡ false = sym c.before.before.before.before.before.lacks.ensures ∙ c.before.before.before.before.if1.false in
     let good2 : unknown a.g a.second ≡ false = sym c.before.before.before.lacks2.ensures ∙ c.before.before.if2.false in
-    let differ : sameDevice a.first a.second ≡ false = sym c.before.same-device.ensures ∙ c.if3.false in
+    let differ : same_device a.first a.second ≡ false = sym c.before.same-device.ensures ∙ c.if3.false in
     simp (good, good2, differ)
 
-pub pair-refusal-spec : {M : Type 1} → statement M
-pair-refusal-spec =
+pub pair_refusal_spec : {M : Type 1} → statement M
+pair_refusal_spec =
     tie.close
     (tie.spec
     lacks-requires

@@ -67,8 +67,8 @@ returns-8 c = search rules
 returns-9 : tie.Need-returns-9
 returns-9 c = search rules
 
-pub same-device-spec : {M : Type 1} → statement M
-same-device-spec =
+pub same_device_spec : {M : Type 1} → statement M
+same_device_spec =
     tie.close
     (tie.spec
     enum-known-first

@@ -27,7 +27,7 @@ same_length c = search rules
 returns : tie.Need-returns
 returns c = search rules
 
-pub respond-spec : {M : Type 1} → statement M
-respond-spec =
+pub respond_spec : {M : Type 1} → statement M
+respond_spec =
     tie.close
     (tie.spec answer-all-requires slice-reshare-prefix-write-all slice-aggregate-write-all write-all-requires same_length returns)

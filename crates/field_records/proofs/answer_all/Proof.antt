@@ -8,7 +8,7 @@ use borrow.Author.Rules.{rules}
 use lib.ListN.{length, get_or, length-set}
 use Rattle.base.proofs.Fill.{Filled, fill_none}
 use Rattle.field_records.specs.Records.{answer, placed}
-use Rattle.field_records.proofs.Records.{answered-more, answered-all}
+use Rattle.field_records.proofs.Records.{answered_more, answered_all}
 use Rattle.field_records.proofs.answer_all.Statement.{statement}
 use Rattle.field_records.proofs.answer_all.Tie as tie
 
@@ -75,7 +75,7 @@ loop-again c =
       omega arith,
       omega arith,
       omega arith,
-      answered-more s l.records l.count l.invariant.1 l.invariant.3 l.invariant.0 (omega arith)
+      answered_more s l.records l.count l.invariant.1 l.invariant.3 l.invariant.0 (omega arith)
           (a.answer-one.ensures ∙ ap (answer (get_or l.records l.at 0) (get_or l.records (l.at + 1) 0)) a.before.number.ensures)
           c.before.first_byte.ensures c.second-byte.ensures,
     )
@@ -87,10 +87,10 @@ returns : tie.Need-returns invariant-loop decreases-loop
 returns c =
     let s = c.before.before.before.args.records.now in
     let l = c.before.loop in
-    record { count = omega arith; bytes = answered-all s l.records l.count l.invariant.1 l.invariant.3 (omega arith) (omega arith) }
+    record { count = omega arith; bytes = answered_all s l.records l.count l.invariant.1 l.invariant.3 (omega arith) (omega arith) }
 
-pub answer-all-spec : {M : Type 1} → statement M
-answer-all-spec =
+pub answer_all_spec : {M : Type 1} → statement M
+answer_all_spec =
     tie.close
     (tie.spec
     invariant-loop

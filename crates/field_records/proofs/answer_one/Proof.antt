@@ -4,9 +4,9 @@ use mathlib.Core.Path.{◌≡◌, refl, sym, ap, ◌∙◌}
 use Prim.Native.Nat.{ℕ, zero, suc}
 use native.Mathlib.Omega.{arith}
 use borrow.Author.Rules.{rules}
-use Rattle.gf256.proofs.Laws.{logarithm-exponent}
+use Rattle.gf256.proofs.Laws.{logarithm_exponent}
 use Rattle.field_records.specs.declared.Answer.TheVariants.{Is, None}
-use Rattle.field_records.specs.Records.{ofInverse, ofLogarithm, answer}
+use Rattle.field_records.specs.Records.{of_inverse, of_logarithm, answer}
 use Rattle.field_records.proofs.answer_one.Statement.{statement}
 use Rattle.field_records.proofs.answer_one.Tie as tie
 
@@ -55,7 +55,7 @@ enum-known-e c = search rules
 cast-t17 : tie.Need-overflow-cast-t17
 cast-t17 c =
     let called = c.before.before.before in
-    let has = logarithm-exponent called.before.before.args.a.0 (omega arith) (sym called.logarithm.ensures ∙ c.before.e.given.1) in
+    let has = logarithm_exponent called.before.before.args.a.0 (omega arith) (sym called.logarithm.ensures ∙ c.before.e.given.1) in
     omega arith
 
 enum-told-2 : tie.Need-enum-told-2
@@ -81,28 +81,28 @@ unfolding answer
 returns-4 c =
     let called = c.before.before.before in
     let m = called.before in
-    ap ofInverse (sym c.before.y.given.1 ∙ called.inverse.ensures) ∙ at m.match.keys4 m.before.args.a.0 m.before.args.b
+    ap of_inverse (sym c.before.y.given.1 ∙ called.inverse.ensures) ∙ at m.match.keys4 m.before.args.a.0 m.before.args.b
 
 returns-5 : tie.Need-returns-5
 unfolding answer
 returns-5 c =
     let called = c.before.before in
     let m = called.before in
-    ap ofInverse (sym c.enum_told.given.1 ∙ called.inverse.ensures) ∙ at m.match.keys4 m.before.args.a.0 m.before.args.b
+    ap of_inverse (sym c.enum_told.given.1 ∙ called.inverse.ensures) ∙ at m.match.keys4 m.before.args.a.0 m.before.args.b
 
 returns-6 : tie.Need-returns-6
 unfolding answer
 returns-6 c =
     let called = c.before.before.before in
     let m = called.before in
-    ap ofLogarithm (sym c.before.e.given.1 ∙ called.logarithm.ensures) ∙ at m.match.keys5 m.before.args.a.0 m.before.args.b
+    ap of_logarithm (sym c.before.e.given.1 ∙ called.logarithm.ensures) ∙ at m.match.keys5 m.before.args.a.0 m.before.args.b
 
 returns-7 : tie.Need-returns-7
 unfolding answer
 returns-7 c =
     let called = c.before.before in
     let m = called.before in
-    ap ofLogarithm (sym c.enum-told2.given.1 ∙ called.logarithm.ensures) ∙ at m.match.keys5 m.before.args.a.0 m.before.args.b
+    ap of_logarithm (sym c.enum-told2.given.1 ∙ called.logarithm.ensures) ∙ at m.match.keys5 m.before.args.a.0 m.before.args.b
 
 returns-8 : tie.Need-returns-8
 unfolding answer
@@ -113,8 +113,8 @@ returns-9 c =
     let r = c.match.rest in
     none c.before.args.operation c.before.args.a.0 c.before.args.b r.0.0.0.0.0.1 r.0.0.0.0.1 r.0.0.0.1 r.0.0.1 r.0.1 r.1
 
-pub answer-one-spec : {M : Type 1} → statement M
-answer-one-spec =
+pub answer_one_spec : {M : Type 1} → statement M
+answer_one_spec =
     tie.close
     (tie.spec
     cast-t8

@@ -6,7 +6,7 @@ use native.Mathlib.Nat.{add-zero}
 use native.Mathlib.Omega.{arith}
 use borrow.Author.Rules.{rules}
 use lib.ListN.{get_or}
-use Rattle.field_records.specs.Records.{bigEndian}
+use Rattle.field_records.specs.Records.{big_endian}
 use Rattle.field_records.proofs.half.Statement.{statement}
 use Rattle.field_records.proofs.half.Tie as tie
 
@@ -62,7 +62,7 @@ add-result : tie.Need-overflow-add-result
 add-result c = search rules
 
 returns : tie.Need-returns
-unfolding bigEndian
+unfolding big_endian
 returns c =
     let a = c.before.before.before.before.before.before.before.before.before.args in
     let first = ap (λ (n : ℕ). get_or a.bytes.now n 0) (add-zero a.at) in

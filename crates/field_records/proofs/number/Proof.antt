@@ -24,6 +24,6 @@ add-result c = search rules
 returns : tie.Need-returns
 returns c = omega (arith, halves c.before.before.before.args.bytes.now c.before.before.before.args.at)
 
-pub number-spec : {M : Type 1} → statement M
-number-spec =
+pub number_spec : {M : Type 1} → statement M
+number_spec =
     tie.close (tie.spec half-requires mul-result add_half half-requires-2 add-result returns)

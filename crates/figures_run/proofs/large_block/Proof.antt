@@ -27,5 +27,5 @@ last-column-requires c κs = omega (arith, c.before.requires, lent c.before)
 returns : tie.Need-returns
 returns c = search rules
 
-pub large-block-spec : {M : Type 1} → statement M
-large-block-spec = tie.close (tie.spec mul-s array-borrow-prefix-s slice-aggregate-last-column last-column-requires returns)
+pub large_block_spec : {M : Type 1} → statement M
+large_block_spec = tie.close (tie.spec mul-s array-borrow-prefix-s slice-aggregate-last-column last-column-requires returns)

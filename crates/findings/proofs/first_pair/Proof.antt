@@ -8,8 +8,8 @@ use borrow.Author.Tests.{not-true, not-false}
 use Rattle.matrix.specs.Fold.{fold}
 use Rattle.findings.specs.Findings.{or_else, first, pair_at}
 use Rattle.findings.specs.declared.Finding.TheVariants.{Fit}
-use Rattle.matrix.proofs.Fold.{fold_more, fold-met}
-use Rattle.findings.proofs.Findings.{is-fit, unfit-hides}
+use Rattle.matrix.proofs.Fold.{fold_more, fold_met}
+use Rattle.findings.proofs.Findings.{is_fit_lem, unfit_hides}
 use Rattle.findings.proofs.first_pair.Statement.{statement}
 use Rattle.findings.proofs.first_pair.Tie as tie
 
@@ -33,7 +33,7 @@ returns : tie.Need-returns invariant-loop decreases-loop
 returns c =
     let found = c.before.before.first-partner in
     sym
-    (fold-met or_else Fit (unfit-hides _ (sym c.before.is-fit.ensures ∙ not-true _ c.if1.true)) _ _ _ c.before.before.before.loop-test.true
+    (fold_met or_else Fit (unfit_hides _ (sym c.before.is-fit.ensures ∙ not-true _ c.if1.true)) _ _ _ c.before.before.before.loop-test.true
     (ap₂ or_else c.before.before.before.before.loop.invariant.1 (sym found.ensures)))
 
 add-i : tie.Need-overflow-add-i invariant-loop decreases-loop
@@ -47,14 +47,14 @@ loop-again c =
     let found = c.before.before.first-partner in (
       search rules,
       fold_more or_else Fit _ _ ∙ ap₂ or_else c.before.before.before.before.loop.invariant.1
-          (sym found.ensures ∙ is-fit _ (sym c.before.is-fit.ensures ∙ not-false _ c.if1.false)),
+          (sym found.ensures ∙ is_fit_lem _ (sym c.before.is-fit.ensures ∙ not-false _ c.if1.false)),
     )
 
 returns-2 : tie.Need-returns-2 invariant-loop decreases-loop
 returns-2 c = let end : c.before.loop.i ≡ c.before.before.args.count = omega arith in sym (rw end at c.before.loop.invariant.1)
 
-pub first-pair-spec : {M : Type 1} → statement M
-first-pair-spec =
+pub first_pair_spec : {M : Type 1} → statement M
+first_pair_spec =
     tie.close
     (tie.spec
     invariant-loop

@@ -9,8 +9,8 @@ use borrow.Author.Tests.{lt-ltb}
 use Rattle.matrix.specs.Matrix.{singular}
 use Rattle.findings.specs.Findings.{or_else, first, when, pair_at}
 use Rattle.findings.specs.declared.Finding.TheVariants.{Fit, Pair}
-use Rattle.matrix.proofs.Fold.{fold_more, fold-met, fold-none}
-use Rattle.findings.proofs.Reports.{pair-passes}
+use Rattle.matrix.proofs.Fold.{fold_more, fold_met, fold_none}
+use Rattle.findings.proofs.Reports.{pair_passes}
 use Rattle.findings.proofs.first_partner.Statement.{statement}
 use Rattle.findings.proofs.first_partner.Tie as tie
 
@@ -31,7 +31,7 @@ add-j c = search rules
 
 loop-holds : tie.Need-loop-init invariant-loop decreases-loop
 loop-holds c =
-    (omega arith, omega arith, fold-none or_else Fit refl _ _ (λ k l. pair-passes c.before.args.t1 c.before.args.i k (λ o. absurd (omega arith))))
+    (omega arith, omega arith, fold_none or_else Fit refl _ _ (λ k l. pair_passes c.before.args.t1 c.before.args.i k (λ o. absurd (omega arith))))
 
 mul-b : tie.Need-overflow-mul-b invariant-loop decreases-loop
 mul-b c = search rules
@@ -58,7 +58,7 @@ turn c b e =
 
 returns : tie.Need-returns invariant-loop decreases-loop
 returns c =
-    sym (fold-met or_else Fit (λ g. refl) _ _ _ c.before.before.before.before.loop-test.true (ap₂ or_else c.before.before.before.before.before.loop.invariant.2 (turn c.before _ c.if1.true)))
+    sym (fold_met or_else Fit (λ g. refl) _ _ _ c.before.before.before.before.loop-test.true (ap₂ or_else c.before.before.before.before.before.loop.invariant.2 (turn c.before _ c.if1.true)))
 
 add-j-2 : tie.Need-overflow-add-j-2 invariant-loop decreases-loop
 add-j-2 c = search rules
@@ -73,8 +73,8 @@ loop-again c =
 returns-2 : tie.Need-returns-2 invariant-loop decreases-loop
 returns-2 c = let end : c.before.loop.j ≡ c.before.before.before.args.count = omega arith in sym (rw end at c.before.loop.invariant.2)
 
-pub first-partner-spec : {M : Type 1} → statement M
-first-partner-spec =
+pub first_partner_spec : {M : Type 1} → statement M
+first_partner_spec =
     tie.close
     (tie.spec
     invariant-loop

@@ -6,14 +6,14 @@ use Prim.Native.Nat.{◌-◌, ◌≤◌}
 use native.Mathlib.Omega.{arith}
 use borrow.Author.Rules.{rules}
 use Rattle.matrix.specs.Fold.{fold}
-use Rattle.findings.specs.Findings.{or_else, first, when, singularAt}
+use Rattle.findings.specs.Findings.{or_else, first, when, singular_at}
 use Rattle.findings.specs.declared.Finding.TheVariants.{Fit, Singular}
-use Rattle.matrix.proofs.Fold.{fold_more, fold-met}
+use Rattle.matrix.proofs.Fold.{fold_more, fold_met}
 use Rattle.findings.proofs.first_singular.Statement.{statement}
 use Rattle.findings.proofs.first_singular.Tie as tie
 
 abbrev invariant-loop : tie.invariant-loop
-invariant-loop count code i₀ i = (i ≤ count) × (first i (λ k. singularAt code k) ≡ Fit)
+invariant-loop count code i₀ i = (i ≤ count) × (first i (λ k. singular_at code k) ≡ Fit)
 
 abbrev decreases-loop : tie.decreases-loop
 decreases-loop count code i₀ i = count - i
@@ -33,11 +33,11 @@ is-singular-requires c κs = search rules
 
 -- what the turn adds, from the answer on its matrix
 turn : (c : tie.After-is-singular invariant-loop decreases-loop) (b : Bool) → c.is-singular.result ≡ b
-    → singularAt c.before.before.before.before.args.t1 c.before.before.before.loop.i ≡ when b (Singular c.before.before.before.loop.i)
+    → singular_at c.before.before.before.before.args.t1 c.before.before.before.loop.i ≡ when b (Singular c.before.before.before.loop.i)
 turn c b e = ap (λ (t : Bool). when t (Singular c.before.before.before.loop.i)) (sym c.is-singular.ensures ∙ e)
 
 returns : tie.Need-returns invariant-loop decreases-loop
-returns c = sym (fold-met or_else Fit (λ g. refl) _ _ _ c.before.before.before.loop-test.true (ap₂ or_else c.before.before.before.before.loop.invariant.1 (turn c.before _ c.if1.true)))
+returns c = sym (fold_met or_else Fit (λ g. refl) _ _ _ c.before.before.before.loop-test.true (ap₂ or_else c.before.before.before.before.loop.invariant.1 (turn c.before _ c.if1.true)))
 
 add-i : tie.Need-overflow-add-i invariant-loop decreases-loop
 add-i c = search rules
@@ -51,8 +51,8 @@ loop-again c = (search rules, fold_more or_else Fit _ _ ∙ ap₂ or_else c.befo
 returns-2 : tie.Need-returns-2 invariant-loop decreases-loop
 returns-2 c = let end : c.before.loop.i ≡ c.before.before.args.count = omega arith in sym (rw end at c.before.loop.invariant.1)
 
-pub first-singular-spec : {M : Type 1} → statement M
-first-singular-spec =
+pub first_singular_spec : {M : Type 1} → statement M
+first_singular_spec =
     tie.close
     (tie.spec
     invariant-loop

@@ -3,7 +3,7 @@
 use mathlib.Core.Path.{sym}
 use borrow.Author.Rules.{rules}
 use Rattle.gf256.proofs.Tables.{powers}
-use Rattle.gf256.proofs.Powers.{power-entry}
+use Rattle.gf256.proofs.Powers.{power_entry}
 use Rattle.gf256.proofs.power_of_two.Statement.{statement}
 use Rattle.gf256.proofs.power_of_two.Tie as tie
 
@@ -12,7 +12,7 @@ array-read-t6 c = search rules
 
 returns : tie.Need-returns
 unfolding powers
-returns c = sym (power-entry c.args.exponent c.requires)
+returns c = sym (power_entry c.args.exponent c.requires)
 
-pub power-of-two-spec : {M : Type 1} → statement M
-power-of-two-spec = tie.close (tie.spec array-read-t6 returns)
+pub power_of_two_spec : {M : Type 1} → statement M
+power_of_two_spec = tie.close (tie.spec array-read-t6 returns)

@@ -5,11 +5,11 @@ use mathlib.Core.Path.{◌≡◌, refl, sym, ◌∙◌}
 use mathlib.Core.Bool.{true, false}
 use mathlib.Core.List.{[], ◌∷◌}
 use borrow.Author.Tests.{eq-eqb, ne_eqb}
-use Rattle.base.proofs.Refused.{refused-first, refused-then}
-use Rattle.shape.specs.Refusals.{library, shapeRefusals}
-use Rattle.devices.specs.Codes.{named_by, noDevices}
+use Rattle.base.proofs.Refused.{refused_first, refused_then}
+use Rattle.shape.specs.Refusals.{library, shape_refusals}
+use Rattle.devices.specs.Codes.{named_by, no_devices}
 use Rattle.header.specs.Refusals.{refusal4, refusal5}
-use Rattle.header.proofs.Order.{none-twice}
+use Rattle.header.proofs.Order.{none_twice}
 use Rattle.header.proofs.call_refusal.Statement.{statement}
 use Rattle.header.proofs.call_refusal.Tie as tie
 
@@ -25,7 +25,7 @@ encode-refusal-requires c κs = search rules
 returns-2 : tie.Need-returns-2
 returns-2 c =
     let a = c.before.before.before.args in
-    refused-first (shapeRefusals library a.g a.len) (refusal4 a.g a.command (named_by a.first) (named_by a.second) ∷ refusal5 (named_by a.first) (named_by a.second) ∷ []) c.before.encode-refusal.ensures c.if2.true
+    refused_first (shape_refusals library a.g a.len) (refusal4 a.g a.command (named_by a.first) (named_by a.second) ∷ refusal5 (named_by a.first) (named_by a.second) ∷ []) c.before.encode-refusal.ensures c.if2.true
 
 no-devices-requires : tie.Need-no-devices-requires
 no-devices-requires c κs = search rules
@@ -33,18 +33,18 @@ no-devices-requires c κs = search rules
 returns-3 : tie.Need-returns-3
 returns-3 c =
     let a = c.before.before.before.before.before.args in
-    let none : noDevices (named_by a.first) (named_by a.second) ≡ true = sym c.before.no-devices.ensures ∙ c.if3.true in
-    let once = none-twice (named_by a.first) (named_by a.second) none in
-    refused-then (shapeRefusals library a.g a.len) (refusal4 a.g a.command (named_by a.first) (named_by a.second) ∷ refusal5 (named_by a.first) (named_by a.second) ∷ []) c.before.before.before.encode-refusal.ensures refl c.before.before.if2.false (simp (ne_eqb _ _ c.before.before.before.before.if1.false, none, once))
+    let none : no_devices (named_by a.first) (named_by a.second) ≡ true = sym c.before.no-devices.ensures ∙ c.if3.true in
+    let once = none_twice (named_by a.first) (named_by a.second) none in
+    refused_then (shape_refusals library a.g a.len) (refusal4 a.g a.command (named_by a.first) (named_by a.second) ∷ refusal5 (named_by a.first) (named_by a.second) ∷ []) c.before.before.before.encode-refusal.ensures refl c.before.before.if2.false (simp (ne_eqb _ _ c.before.before.before.before.if1.false, none, once))
 
 returns-4 : tie.Need-returns-4
 returns-4 c =
     let a = c.before.before.before.before.before.args in
-    let some : noDevices (named_by a.first) (named_by a.second) ≡ false = sym c.before.no-devices.ensures ∙ c.if3.false in
-    refused-then (shapeRefusals library a.g a.len) (refusal4 a.g a.command (named_by a.first) (named_by a.second) ∷ refusal5 (named_by a.first) (named_by a.second) ∷ []) c.before.before.before.encode-refusal.ensures refl c.before.before.if2.false (simp (ne_eqb _ _ c.before.before.before.before.if1.false, some))
+    let some : no_devices (named_by a.first) (named_by a.second) ≡ false = sym c.before.no-devices.ensures ∙ c.if3.false in
+    refused_then (shape_refusals library a.g a.len) (refusal4 a.g a.command (named_by a.first) (named_by a.second) ∷ refusal5 (named_by a.first) (named_by a.second) ∷ []) c.before.before.before.encode-refusal.ensures refl c.before.before.if2.false (simp (ne_eqb _ _ c.before.before.before.before.if1.false, some))
 
-pub call-refusal-spec : {M : Type 1} → statement M
-call-refusal-spec =
+pub call_refusal_spec : {M : Type 1} → statement M
+call_refusal_spec =
     tie.close
     (tie.spec
     named-refusal-requires

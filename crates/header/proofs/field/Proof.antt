@@ -63,8 +63,8 @@ returns-3 : tie.Need-returns-3
 unfolding field
 returns-3 c = record { value = refl; small = omega (arith, small c.before.before) }
 
-pub field-spec : {M : Type 1} → statement M
-field-spec =
+pub field_spec : {M : Type 1} → statement M
+field_spec =
     tie.close
     (tie.spec
     returns

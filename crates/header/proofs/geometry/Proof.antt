@@ -15,5 +15,5 @@ field-requires-2 c κs = search rules
 returns : tie.Need-returns
 returns c = ap₂ (λ (n b : ℕ). record { n = n; b = b }) c.before.field.ensures.value c.field2.ensures.value
 
-pub geometry-spec : {M : Type 1} → statement M
-geometry-spec = tie.close (tie.spec field-requires field-requires-2 returns)
+pub geometry_spec : {M : Type 1} → statement M
+geometry_spec = tie.close (tie.spec field-requires field-requires-2 returns)

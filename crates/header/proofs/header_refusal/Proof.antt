@@ -5,7 +5,7 @@ use mathlib.Core.List.{List, [], ◌∷◌}
 use borrow.Author.Rules.{rules}
 use borrow.Author.Tests.{eq-eqb, ne_eqb, lt-ltb, le-ltb}
 use Rattle.base.specs.Refusal.{Refusal, first_of}
-use Rattle.header.specs.Header.{commandOf}
+use Rattle.header.specs.Header.{command_of}
 use Rattle.header.specs.Refusals.{refusal16, refusal17, refusal18, refusal19}
 use Rattle.header.proofs.header_refusal.Statement.{statement}
 use Rattle.header.proofs.header_refusal.Tie as tie
@@ -65,7 +65,7 @@ field-requires c κs = search rules
 returns-5 : tie.Need-returns-5
 returns-5 c =
     let job = c.before.before.before.before.before.before.before.before.before.before.args.job.now in
-    sym (marked c.before.before (refusal18 job ∷ refusal19 (commandOf job) ∷ []) ∙ simp (ne_eqb _ _ (λ e. c.if5.true (c.before.field.ensures.value ∙ e))))
+    sym (marked c.before.before (refusal18 job ∷ refusal19 (command_of job) ∷ []) ∙ simp (ne_eqb _ _ (λ e. c.if5.true (c.before.field.ensures.value ∙ e))))
 
 shared-slice-read-command : tie.Need-shared-slice-read-command
 shared-slice-read-command c = search rules
@@ -73,20 +73,20 @@ shared-slice-read-command c = search rules
 returns-6 : tie.Need-returns-6
 returns-6 c =
     let job = c.before.before.before.before.before.before.before.before.before.before.before.before.args.job.now in
-    sym (passed c.before.before (refusal19 (commandOf job) ∷ []) ∙ simp (eq-eqb _ _ c.if6.true))
+    sym (passed c.before.before (refusal19 (command_of job) ∷ []) ∙ simp (eq-eqb _ _ c.if6.true))
 
 returns-7 : tie.Need-returns-7
 returns-7 c =
     let job = c.before.before.before.before.before.before.before.before.before.before.before.before.before.args.job.now in
-    sym (passed c.before.before.before (refusal19 (commandOf job) ∷ []) ∙ simp (ne_eqb _ _ c.before.if6.false, lt-ltb _ _ c.if7.true))
+    sym (passed c.before.before.before (refusal19 (command_of job) ∷ []) ∙ simp (ne_eqb _ _ c.before.if6.false, lt-ltb _ _ c.if7.true))
 
 returns-8 : tie.Need-returns-8
 returns-8 c =
     let job = c.before.before.before.before.before.before.before.before.before.before.before.before.before.args.job.now in
-    sym (passed c.before.before.before (refusal19 (commandOf job) ∷ []) ∙ simp (ne_eqb _ _ c.before.if6.false, le-ltb _ _ c.if7.false))
+    sym (passed c.before.before.before (refusal19 (command_of job) ∷ []) ∙ simp (ne_eqb _ _ c.before.if6.false, le-ltb _ _ c.if7.false))
 
-pub header-refusal-spec : {M : Type 1} → statement M
-header-refusal-spec =
+pub header_refusal_spec : {M : Type 1} → statement M
+header_refusal_spec =
     tie.close
     (tie.spec
     returns

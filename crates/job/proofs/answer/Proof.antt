@@ -8,7 +8,7 @@ use borrow.Author.Rules.{rules}
 use borrow.Author.Tests.{le-leb, lt-leb}
 use lib.ListN.{length, drop}
 use lib.Seq.{length-take-le}
-use Rattle.job.specs.Answer.{answerTo}
+use Rattle.job.specs.Answer.{answer_to}
 use Rattle.job.proofs.answer.Statement.{statement}
 use Rattle.job.proofs.answer.Tie as tie
 
@@ -22,7 +22,7 @@ returns : tie.Need-returns
 returns c =
     let a = c.before.before.before.before.before.args in
     let len = c.before.answer-length.ensures in
-    let short = lt-leb (length (answerTo a.job.now)) (length a.out.now) (omega arith) in
+    let short = lt-leb (length (answer_to a.job.now)) (length a.out.now) (omega arith) in
     record { count = simp short; output = simp short }
 
 slice-relend-prefix-respond : tie.Need-slice-relend-prefix-respond
@@ -41,14 +41,14 @@ returns-2 : tie.Need-returns-2
 returns-2 c =
     let a = c.before.before.before.before.before.before.before.before.before.args in
     let len = c.before.before.before.before.before.answer-length.ensures in
-    let room = le-leb (length (answerTo a.job.now)) (length a.out.now) (omega (arith, c.before.before.before.before.if1.false)) in
+    let room = le-leb (length (answer_to a.job.now)) (length a.out.now) (omega (arith, c.before.before.before.before.if1.false)) in
     record {
       count = simp room len;
       output = simp room (ap₂ (λ (l : List ℕ) (n : ℕ). l ++ drop n a.out.now) c.before.before.respond.ensures len);
     }
 
-pub answer-spec : {M : Type 1} → statement M
-answer-spec =
+pub answer_spec : {M : Type 1} → statement M
+answer_spec =
     tie.close
     (tie.spec
     refusal-requires

@@ -4,21 +4,21 @@ use mathlib.Core.Path.{◌≡◌, sym, ap, ◌∙◌}
 use native.Mathlib.Omega.{arith}
 use borrow.Author.Rules.{rules}
 use lib.ListN.{length, length-drop}
-use Rattle.header.specs.Refusals.{jobRefusal}
+use Rattle.header.specs.Refusals.{job_refusal}
 use Rattle.header.proofs.Accepted.{Accepted, accepted}
-use Rattle.job.proofs.Answers.{answer-refused, length-accepted}
-use Rattle.job.proofs.Bodies.{length-check, length-stripe}
+use Rattle.job.proofs.Answers.{answer_refused, length_accepted}
+use Rattle.job.proofs.Bodies.{length_check, length_stripe}
 use Rattle.job.proofs.answer_length.Statement.{statement}
 use Rattle.job.proofs.answer_length.Tie as tie
 
-done : (c : tie.Else1) → jobRefusal c.before.before.args.job.now ≡ 0
+done : (c : tie.Else1) → job_refusal c.before.before.args.job.now ≡ 0
 done c = sym c.before.before.requires ∙ c.if1.false
 
 ok : (c : tie.Else1) → Accepted c.before.before.args.job.now
 ok c = accepted c.before.before.args.job.now (done c)
 
 returns : tie.Need-returns
-returns c = sym (ap length (answer-refused c.before.before.args.job.now (λ e. c.if1.true (c.before.before.requires ∙ e))))
+returns c = sym (ap length (answer_refused c.before.before.args.job.now (λ e. c.if1.true (c.before.before.requires ∙ e))))
 
 shared-slice-read-if2 : tie.Need-shared-slice-read-if2
 shared-slice-read-if2 c = omega (arith, (ok c.before).long)
@@ -36,8 +36,8 @@ returns-2 : tie.Need-returns-2
 returns-2 c =
     let job = c.before.before.before.before.before.args.job.now in
     let value = c.field.ensures.value in
-    let rest = length-check job c.before.if2.true in
-    omega (arith, length-accepted job (done c.before.before.before))
+    let rest = length_check job c.before.if2.true in
+    omega (arith, length_accepted job (done c.before.before.before))
 
 sub-result : tie.Need-overflow-sub-result
 sub-result c = omega (arith, (ok c.before.before).long)
@@ -45,11 +45,11 @@ sub-result c = omega (arith, (ok c.before.before).long)
 returns-3 : tie.Need-returns-3
 returns-3 c =
     let job = c.before.before.before.before.args.job.now in
-    let rest = length-stripe job (ok c.before.before) c.if2.false in
-    omega (arith, length-accepted job (done c.before.before), (ok c.before.before).long, length-drop 14 job)
+    let rest = length_stripe job (ok c.before.before) c.if2.false in
+    omega (arith, length_accepted job (done c.before.before), (ok c.before.before).long, length-drop 14 job)
 
-pub answer-length-spec : {M : Type 1} → statement M
-answer-length-spec =
+pub answer_length_spec : {M : Type 1} → statement M
+answer_length_spec =
     tie.close
     (tie.spec
     returns

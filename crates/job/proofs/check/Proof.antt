@@ -3,7 +3,7 @@
 use native.Mathlib.Omega.{arith}
 use borrow.Author.Rules.{rules}
 use lib.ListN.{length-take}
-use Rattle.report.proofs.Laws.{report-made}
+use Rattle.report.proofs.Laws.{report_made}
 use Rattle.job.proofs.check.Statement.{statement}
 use Rattle.job.proofs.check.Tie as tie
 
@@ -22,8 +22,8 @@ same_length c = search rules
 returns : tie.Need-returns
 returns c =
     let s = c.before.before.before.before.before.before.before.before in
-    report-made c.before.before.before.check.ensures s.requires.0 (simp length-take (omega arith)) s.requires.2
+    report_made c.before.before.before.check.ensures s.requires.0 (simp length-take (omega arith)) s.requires.2
 
-pub check-spec : {M : Type 1} → statement M
-check-spec =
+pub check_spec : {M : Type 1} → statement M
+check_spec =
     tie.close (tie.spec array-borrow-prefix-room slice-aggregate-check check-requires same_length returns)

@@ -6,10 +6,10 @@ use Prim.Native.Nat.{ℕ, ◌≤◌}
 use native.Mathlib.Omega.{arith}
 use borrow.Author.Rules.{rules}
 use lib.ListN.{length, take, drop, length-drop, drop_of_length-le}
-use Rattle.header.specs.Refusals.{jobRefusal}
+use Rattle.header.specs.Refusals.{job_refusal}
 use Rattle.job.specs.Answer.{opening, body}
-use Rattle.job.proofs.Answers.{answer-refused, answer-accepted, length-accepted, answer-least}
-use Rattle.base.proofs.Tails.{tail, put-tail}
+use Rattle.job.proofs.Answers.{answer_refused, answer_accepted, length_accepted, answer_least}
+use Rattle.base.proofs.Tails.{tail, put_tail}
 use Rattle.job.proofs.respond.Statement.{statement}
 use Rattle.job.proofs.respond.Tie as tie
 
@@ -18,16 +18,16 @@ copied : (c : tie.After-slice-known2) → c.before.before.copy.new.1.0 ≡ openi
 copied c = c.before.before.copy.ensures.1
 
 six : (c : tie.After-slice-known2) → 6 ≤ length c.before.before.copy.new.1.0
-six c = omega (arith, c.before.before.copy.auto.1.0, c.before.before.before.before.before.before.before.requires.1, answer-least c.before.before.before.before.before.before.before.args.job.now)
+six c = omega (arith, c.before.before.copy.auto.1.0, c.before.before.before.before.before.before.before.requires.1, answer_least c.before.before.before.before.before.before.before.args.job.now)
 
-done : (c : tie.Else1) → jobRefusal c.before.before.before.before.before.before.before.before.args.job.now ≡ 0
+done : (c : tie.Else1) → job_refusal c.before.before.before.before.before.before.before.before.args.job.now ≡ 0
 done c = omega (arith, c.before.before.before.before.before.before.before.before.requires.0)
 
 slice-aggregate-copy : tie.Need-slice-aggregate-copy
 slice-aggregate-copy c = search rules
 
 copy-requires : tie.Need-copy-requires
-copy-requires c κs = omega (arith, c.before.before.before.before.requires.1, answer-least c.before.before.before.before.args.job.now)
+copy-requires c κs = omega (arith, c.before.before.before.before.requires.1, answer_least c.before.before.before.before.args.job.now)
 
 same_length : tie.Need-same-length
 same_length c = search rules
@@ -35,7 +35,7 @@ same_length c = search rules
 returns : tie.Need-returns
 returns c =
     let a = c.before.before.before.before.before.before.before.before.args in
-    let refused = answer-refused a.job.now (λ e. omega (arith, c.before.before.before.before.before.before.before.before.requires.0)) in
+    let refused = answer_refused a.job.now (λ e. omega (arith, c.before.before.before.before.before.before.before.before.requires.0)) in
     copied c.before
     ∙ ap (λ (l : List ℕ). opening a.result ++ l) (drop_of_length-le a.out.now {i = 6} (omega (arith, c.before.before.before.before.before.before.before.before.requires.1, ap length refused)))
     ∙ ap opening c.before.before.before.before.before.before.before.before.requires.0
@@ -54,7 +54,7 @@ run-requires : tie.Need-run-requires
 run-requires c κs =
     let o = c.before.before.before.before.copy.new.1.0 in
     let accepted = done c.before in
-    (accepted, omega (arith, ap length (tail 6 o), length-drop 6 o, c.before.before.before.before.copy.auto.1.0, c.before.before.before.before.before.before.before.before.before.requires.1, length-accepted c.before.before.before.before.before.before.before.before.before.args.job.now accepted))
+    (accepted, omega (arith, ap length (tail 6 o), length-drop 6 o, c.before.before.before.before.copy.auto.1.0, c.before.before.before.before.before.before.before.before.before.requires.1, length_accepted c.before.before.before.before.before.before.before.before.before.args.job.now accepted))
 
 same-length-2 : tie.Need-same-length-2
 same-length-2 c = search rules
@@ -63,13 +63,13 @@ returns-2 : tie.Need-returns-2
 returns-2 c =
     let a = c.before.before.before.before.before.before.before.before.before.before.before.before.args in
     let accepted = done c.before.before.before.before in
-    put-tail 6 c.before.before.before.before.before.before.before.copy.new.1.0 c.before.before.run.new.1.0
+    put_tail 6 c.before.before.before.before.before.before.before.copy.new.1.0 c.before.before.run.new.1.0
     ∙ ap₂ (λ (l m : List ℕ). take 6 l ++ m) (copied c.before.before.before.before.before) c.before.before.run.ensures
     ∙ ap (λ (k : ℕ). opening k ++ body a.job.now) (c.before.before.before.before.before.before.before.before.before.before.before.before.requires.0 ∙ accepted)
-    ∙ sym (answer-accepted a.job.now accepted)
+    ∙ sym (answer_accepted a.job.now accepted)
 
-pub respond-spec : {M : Type 1} → statement M
-respond-spec =
+pub respond_spec : {M : Type 1} → statement M
+respond_spec =
     tie.close
     (tie.spec
     slice-aggregate-copy

@@ -7,14 +7,14 @@ use native.Mathlib.Omega.{arith}
 use borrow.Author.Rules.{rules}
 use lib.ListN.{length, take, drop}
 use Rattle.shape.specs.declared.Geometry.{Geometry}
-use Rattle.shape.specs.Refusals.{encodeRefusal}
-use Rattle.stripe.specs.Calls.{afterEncode, rebuiltBy, afterRepair}
-use Rattle.devices.specs.Codes.{namingOf}
-use Rattle.header.specs.Header.{geometryOf, stripeOf}
+use Rattle.shape.specs.Refusals.{encode_refusal}
+use Rattle.stripe.specs.Calls.{after_encode, rebuilt_by, after_repair}
+use Rattle.devices.specs.Codes.{naming_of}
+use Rattle.header.specs.Header.{geometry_of, stripe_of}
 use Rattle.report.specs.Report.{report}
 use Rattle.compare.specs.Compare.{verdicts}
-use Rattle.header.proofs.Accepted.{Accepted, accepted, columns-most}
-use Rattle.job.proofs.Bodies.{length-stripe, other, body-check, length-check, encode-done, rebuild-done, repair-done}
+use Rattle.header.proofs.Accepted.{Accepted, accepted, columns_most}
+use Rattle.job.proofs.Bodies.{length_stripe, other, body_check, length_check, encode_done, rebuild_done, repair_done}
 use Rattle.base.proofs.Tails.{tail, filled}
 use Rattle.job.proofs.run.Statement.{statement}
 use Rattle.job.proofs.run.Tie as tie
@@ -22,21 +22,21 @@ use Rattle.job.proofs.run.Tie as tie
 ok : (c : tie.Start) → Accepted c.args.job.now
 ok c = accepted c.args.job.now c.requires.0
 
-room : (c : tie.Else1) → let a = c.before.before.before.before.before.before.args in length a.out.now ≡ length (stripeOf a.job.now)
+room : (c : tie.Else1) → let a = c.before.before.before.before.before.before.args in length a.out.now ≡ length (stripe_of a.job.now)
 room c =
     let s = c.before.before.before.before.before.before in
-    s.requires.1 ∙ length-stripe s.args.job.now (ok s) c.if1.false
+    s.requires.1 ∙ length_stripe s.args.job.now (ok s) c.if1.false
 
 -- behind the copy the output holds the stripe
 abbrev start : tie.After-slice-known3 → tie.Start
 start c = c.before.before.before.before.before.before.before.before.before.before
 
-copied : (c : tie.After-slice-known3) → c.before.before.copy.new.1.0 ≡ stripeOf (start c).args.job.now
+copied : (c : tie.After-slice-known3) → c.before.before.copy.new.1.0 ≡ stripe_of (start c).args.job.now
 copied c =
     let a = (start c).args in
     c.before.before.copy.ensures.1
     ∙ ap (λ (l : List ℕ). take (length l) l ++ drop (length l) a.out.now) (tail 14 a.job.now)
-    ∙ filled (stripeOf a.job.now) a.out.now (room c.before.before.before.before)
+    ∙ filled (stripe_of a.job.now) a.out.now (room c.before.before.before.before)
 
 geometry-requires : tie.Need-geometry-requires
 geometry-requires c κs = search rules
@@ -58,9 +58,9 @@ check-requires c κs =
     let s = c.before.before.before.before.before.before.before in
     let is = c.before.before.before.before.geometry.ensures in
     let job = s.args.job.now in (
-      ap₂ (λ (g : Geometry) (l : List ℕ). encodeRefusal g (length l)) is (tail 14 job) ∙ (ok s).shape,
-      rw is (columns-most (ok s)),
-      s.requires.1 ∙ length-check job c.before.if1.true ∙ ap (λ (g : Geometry). 2 + 2 * g.b) (sym is),
+      ap₂ (λ (g : Geometry) (l : List ℕ). encode_refusal g (length l)) is (tail 14 job) ∙ (ok s).shape,
+      rw is (columns_most (ok s)),
+      s.requires.1 ∙ length_check job c.before.if1.true ∙ ap (λ (g : Geometry). 2 + 2 * g.b) (sym is),
     )
 
 same_length : tie.Need-same-length
@@ -72,7 +72,7 @@ returns c =
     let job = s.args.job.now in
     c.before.before.check.ensures
     ∙ ap₂ (λ (g : Geometry) (l : List ℕ). report (verdicts g l)) c.before.before.before.before.before.before.before.geometry.ensures (tail 14 job)
-    ∙ sym (body-check job c.before.before.before.before.if1.true)
+    ∙ sym (body_check job c.before.before.before.before.if1.true)
 
 copy-requires : tie.Need-copy-requires
 copy-requires c κs = omega (arith, room c.before, ap length (tail 14 c.before.before.before.before.before.before.before.args.job.now))
@@ -88,8 +88,8 @@ returns-2 c =
     let copy = c.before.before.before.before.before in
     let s = start copy in
     c.before.before.encode.ensures.stripe
-    ∙ ap₂ afterEncode copy.before.before.before.before.before.before.before.geometry.ensures (copied copy)
-    ∙ encode-done s.args.job.now (ok s) c.before.before.before.before.if2.true
+    ∙ ap₂ after_encode copy.before.before.before.before.before.before.before.geometry.ensures (copied copy)
+    ∙ encode_done s.args.job.now (ok s) c.before.before.before.before.if2.true
 
 field-requires : tie.Need-field-requires
 field-requires c κs = search rules
@@ -111,9 +111,9 @@ returns-3 c =
     let first = c.before.before.before.before.field in
     let second = c.before.before.before.field2 in
     c.before.before.rebuild-named.ensures.stripe
-    ∙ ap₂ (λ (g : Geometry) (l : List ℕ). rebuiltBy g (namingOf first.result second.result) l) copy.before.before.before.before.before.before.before.geometry.ensures (copied copy)
-    ∙ ap₂ (λ (x y : ℕ). rebuiltBy (geometryOf job) (namingOf x y) (stripeOf job)) first.ensures.value second.ensures.value
-    ∙ rebuild-done job (ok s) c.before.before.before.before.before.before.if3.true
+    ∙ ap₂ (λ (g : Geometry) (l : List ℕ). rebuilt_by g (naming_of first.result second.result) l) copy.before.before.before.before.before.before.before.geometry.ensures (copied copy)
+    ∙ ap₂ (λ (x y : ℕ). rebuilt_by (geometry_of job) (naming_of x y) (stripe_of job)) first.ensures.value second.ensures.value
+    ∙ rebuild_done job (ok s) c.before.before.before.before.before.before.if3.true
 
 repair-requires : tie.Need-repair-requires
 repair-requires c κs = search rules
@@ -128,8 +128,8 @@ returns-4 c =
     let job = s.args.job.now in
     let last = other job (ok s) c.before.before.before.before.before.if2.false c.before.before.before.before.if3.false copy.before.before.before.before.if1.false in
     c.before.before.repair.ensures.stripe
-    ∙ ap₂ afterRepair copy.before.before.before.before.before.before.before.geometry.ensures (copied copy)
-    ∙ repair-done job (ok s) last
+    ∙ ap₂ after_repair copy.before.before.before.before.before.before.before.geometry.ensures (copied copy)
+    ∙ repair_done job (ok s) last
 
 pub run_spec : {M : Type 1} → statement M
 run_spec =

@@ -49,8 +49,8 @@ returns-3 c = rw (c.before.before.before.before.before.j2.given.1, c.before.find
 returns-4 : tie.Need-returns-4
 returns-4 c = rw (c.before.before.before.before.before.j2.given.1, c.before.finding2.given.1, c.before.before.before.flag.ensures)
 
-pub answer-spec : {M : Type 1} → statement M
-answer-spec =
+pub answer_spec : {M : Type 1} → statement M
+answer_spec =
     tie.close
     (tie.spec
     enum-known-j

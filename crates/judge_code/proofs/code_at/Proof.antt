@@ -75,8 +75,8 @@ returns-3 c =
     let a = c.before.before.before.before.before.before.before.before.before.before.before.args in
     simp (le-ltb (length a.s.now) (a.at + 64) (omega arith), c.matrix-at8.ensures, c.before.matrix-at7.ensures, c.before.before.matrix-at6.ensures, c.before.before.before.matrix-at5.ensures, c.before.before.before.before.matrix-at4.ensures, c.before.before.before.before.before.matrix-at3.ensures, c.before.before.before.before.before.before.matrix-at2.ensures, c.before.before.before.before.before.before.before.matrix-at.ensures)
 
-pub code-at-spec : {M : Type 1} → statement M
-code-at-spec =
+pub code_at_spec : {M : Type 1} → statement M
+code_at_spec =
     tie.close
     (tie.spec
     returns

@@ -7,7 +7,7 @@ use native.Mathlib.Omega.{arith}
 use borrow.Author.Rules.{rules}
 use lib.ListN.{length, drop}
 use Rattle.judge_records.specs.Records.{records, answers}
-use Rattle.judge_records.proofs.Answers.{answers-more}
+use Rattle.judge_records.proofs.Answers.{answers_more}
 use Rattle.judge_records.proofs.judge_all.Statement.{statement}
 use Rattle.judge_records.proofs.judge_all.Tie as tie
 
@@ -49,7 +49,7 @@ loop-again c =
     let l = c.before.before.before.before.before.before.loop in (
       omega arith,
       omega arith,
-      c.before.before.put.ensures ∙ answers-more a.codes.now a.out.now l.out l.k l.invariant.2 c.before.before.before.judge-at.ensures,
+      c.before.before.put.ensures ∙ answers_more a.codes.now a.out.now l.out l.k l.invariant.2 c.before.before.before.judge-at.ensures,
     )
 
 mul-result : tie.Need-overflow-mul-result invariant-loop decreases-loop
@@ -65,8 +65,8 @@ returns c =
     let all : l.k ≡ records a.codes.now a.out.now = omega arith in
     record { count = omega arith; output = l.invariant.2 ∙ ap (λ (k : ℕ). answers k a.codes.now ++ drop (7 * k) a.out.now) all }
 
-pub judge-all-spec : {M : Type 1} → statement M
-judge-all-spec =
+pub judge_all_spec : {M : Type 1} → statement M
+judge_all_spec =
     tie.close
     (tie.spec
     invariant-loop

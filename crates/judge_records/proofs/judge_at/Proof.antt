@@ -2,7 +2,7 @@
 -- Assumes nothing.
 use mathlib.Core.Path.{◌≡◌, ap, ap₂, ◌∙◌}
 use Rattle.bitmatrix.specs.Judge.{judged}
-use Rattle.judge_answer.specs.Answer.{answerBytes}
+use Rattle.judge_answer.specs.Answer.{answer_bytes}
 use borrow.Author.Rules.{rules}
 use Rattle.judge_records.proofs.judge_at.Statement.{statement}
 use Rattle.judge_records.proofs.judge_at.Tie as tie
@@ -28,10 +28,10 @@ answer-requires c κs = search rules
 returns : tie.Need-returns
 returns c =
     let is : c.before.judge.result ≡ judged c.before.before.before.before.code_at.result c.before.before.wide.result = search c.before.judge.ensures in
-    c.answer.ensures ∙ ap answerBytes (is ∙ ap₂ judged c.before.before.before.before.code_at.ensures c.before.before.wide.ensures)
+    c.answer.ensures ∙ ap answer_bytes (is ∙ ap₂ judged c.before.before.before.before.code_at.ensures c.before.before.wide.ensures)
 
-pub judge-at-spec : {M : Type 1} → statement M
-judge-at-spec =
+pub judge_at_spec : {M : Type 1} → statement M
+judge_at_spec =
     tie.close
     (tie.spec
     add-code-at

@@ -8,13 +8,13 @@ use native.Mathlib.Omega.{arith}
 use borrow.Author.Rules.{rules}
 use borrow.Author.Tests.{not-true, not-false}
 use lib.ListN.{length, drop, drop_of_length-le}
-use Rattle.lines.specs.Lines.{hasBad}
-use Rattle.lines.proofs.Lines.{bad-here, bad-later}
+use Rattle.lines.specs.Lines.{has_bad}
+use Rattle.lines.proofs.Lines.{bad_here, bad_later}
 use Rattle.lines.proofs.has_bad.Statement.{statement}
 use Rattle.lines.proofs.has_bad.Tie as tie
 
 abbrev invariant-loop : tie.invariant-loop
-invariant-loop serial i₀ i = (i ≤ length serial) × (hasBad serial ≡ hasBad (drop i serial))
+invariant-loop serial i₀ i = (i ≤ length serial) × (has_bad serial ≡ has_bad (drop i serial))
 
 abbrev decreases-loop : tie.decreases-loop
 decreases-loop serial i₀ i = length serial - i
@@ -32,7 +32,7 @@ returns : tie.Need-returns invariant-loop decreases-loop
 returns c =
     let l = c.before.before.before.before.loop in
     let a = c.before.before.before.before.before.before.args in
-    sym (l.invariant.1 ∙ bad-here a.serial.now l.i (omega arith) (sym c.before.is-character.ensures ∙ not-true _ c.if1.true))
+    sym (l.invariant.1 ∙ bad_here a.serial.now l.i (omega arith) (sym c.before.is-character.ensures ∙ not-true _ c.if1.true))
 
 add-i : tie.Need-overflow-add-i invariant-loop decreases-loop
 add-i c = omega arith
@@ -44,7 +44,7 @@ loop-again : tie.Need-loop-preserved invariant-loop decreases-loop
 loop-again c =
     let l = c.before.before.before.before.loop in
     let a = c.before.before.before.before.before.before.args in
-    (omega arith, rw add-one (l.invariant.1 ∙ bad-later a.serial.now l.i (omega arith) (sym c.before.is-character.ensures ∙ not-false _ c.if1.false)))
+    (omega arith, rw add-one (l.invariant.1 ∙ bad_later a.serial.now l.i (omega arith) (sym c.before.is-character.ensures ∙ not-false _ c.if1.false)))
 
 returns-2 : tie.Need-returns-2 invariant-loop decreases-loop
 returns-2 c =
@@ -52,8 +52,8 @@ returns-2 c =
     let a = c.before.before.before.args in
     sym (l.invariant.1 ∙ rw (drop_of_length-le a.serial.now {i = l.i} (omega arith)))
 
-pub has-bad-spec : {M : Type 1} → statement M
-has-bad-spec =
+pub has_bad_spec : {M : Type 1} → statement M
+has_bad_spec =
     tie.close
     (tie.spec
     invariant-loop

@@ -17,5 +17,5 @@ returns-3 c = simp (lt-leb _ 57 c.before.if2.false, lt-leb 65 _ c.if3.true, le-l
 returns-4 : tie.Need-returns-4
 returns-4 c = simp (lt-leb _ 57 c.before.if2.false, le-leb 65 _ c.if3.false, le-leb 48 _ c.before.before.if1.false)
 
-pub is-character-spec : {M : Type 1} → statement M
-is-character-spec = tie.close (tie.spec returns returns-2 returns-3 returns-4)
+pub is_character_spec : {M : Type 1} → statement M
+is_character_spec = tie.close (tie.spec returns returns-2 returns-3 returns-4)

@@ -6,9 +6,9 @@ use mathlib.Core.List.{List}
 use Prim.Native.Nat.{ℕ}
 use lib.ListN.{length, get_or, replicate, get_or-replicate}
 use Rattle.gf256.specs.Field.{element}
-use Rattle.base.proofs.Table.{get_d_tabulate, is-tabulate, tabulate-same}
+use Rattle.base.proofs.Table.{get_d_tabulate, is_tabulate, tabulate_same}
 use Rattle.chunk.specs.Chunk.{width, each, plus}
-use Rattle.products.specs.Products.{plusProduct}
+use Rattle.products.specs.Products.{plus_product}
 use Rattle.losses.specs.declared.Restored.{Restored}
 use Rattle.losses.specs.declared.Rule.TheVariants.{Mixed}
 use Rattle.losses.specs.Losses.{solutions}
@@ -19,15 +19,15 @@ abbrev pair : List ℕ → List ℕ → Restored
 pair first second = record { first = first; second = second }
 
 whole : (l : List ℕ) → length l ≡ width → l ≡ each (λ j. get_or l j 0)
-whole l long = is-tabulate width (λ j. get_or l j 0) l long (λ j h. refl)
+whole l long = is_tabulate width (λ j. get_or l j 0) l long (λ j h. refl)
 
 -- the steps of a mixed rule
-mixed : (a b : ℕ) (p q : List ℕ) {some first second : List ℕ} → some ≡ plusProduct (replicate width 0) a p → first ≡ plusProduct some b q → second ≡ plus p first
+mixed : (a b : ℕ) (p q : List ℕ) {some first second : List ℕ} → some ≡ plus_product (replicate width 0) a p → first ≡ plus_product some b q → second ≡ plus p first
     → pair first second ≡ solutions (Mixed (element a) (element b)) p q
-mixed a b p q {first = first} s d e = ap₂ pair is (e ∙ tabulate-same width (λ j h. rw (is, get_d_tabulate)))
+mixed a b p q {first = first} s d e = ap₂ pair is (e ∙ tabulate_same width (λ j h. rw (is, get_d_tabulate)))
   where
     is : first ≡ (solutions (Mixed (element a) (element b)) p q).first
-    is = d ∙ tabulate-same width (λ j h. rw (s, get_d_tabulate, get_or-replicate))
+    is = d ∙ tabulate_same width (λ j h. rw (s, get_d_tabulate, get_or-replicate))
 
 enum-known-rule : tie.Need-enum-known-rule
 enum-known-rule c = search rules
@@ -59,8 +59,8 @@ returns-2 c =
     let a = c.before.before.before.before.before in
     rw c.before.before.before.rule2.given.1 (ap₂ pair (whole a.args.p a.well-formed.1.0.1.0.1) c.add-product3.ensures)
 
-pub solve-spec : {M : Type 1} → statement M
-solve-spec =
+pub solve_spec : {M : Type 1} → statement M
+solve_spec =
     tie.close
     (tie.spec
     enum-known-rule

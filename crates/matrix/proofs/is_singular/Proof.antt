@@ -7,13 +7,13 @@ use native.Mathlib.Omega.{arith}
 use borrow.Author.Rules.{rules}
 use borrow.Author.Tests.{ne_eqb}
 use Rattle.matrix.specs.Fold.{fold, all}
-use Rattle.matrix.specs.Matrix.{onlyZeroAt, invertible}
-use Rattle.matrix.proofs.Fold.{fold_more, fold-met}
+use Rattle.matrix.specs.Matrix.{only_zero_at, invertible}
+use Rattle.matrix.proofs.Fold.{fold_more, fold_met}
 use Rattle.matrix.proofs.is_singular.Statement.{statement}
 use Rattle.matrix.proofs.is_singular.Tie as tie
 
 abbrev invariant-loop : tie.invariant-loop
-invariant-loop m v₀ v = (1 ≤ v) × (v ≤ 256) × (all v (λ w. onlyZeroAt m w) ≡ true)
+invariant-loop m v₀ v = (1 ≤ v) × (v ≤ 256) × (all v (λ w. only_zero_at m w) ≡ true)
 
 abbrev decreases-loop : tie.decreases-loop
 decreases-loop m v₀ v = 256 - v
@@ -29,14 +29,14 @@ maps-to-zero-requires : tie.Need-maps-to-zero-requires invariant-loop decreases-
 maps-to-zero-requires c κs = search rules
 
 -- the turn's vector is not zero, so what counts is whether it maps to zero
-turn : (c : tie.After-maps-to-zero invariant-loop decreases-loop) → onlyZeroAt c.before.before.before.args.m c.before.before.loop.v ≡ not c.maps-to-zero.result
+turn : (c : tie.After-maps-to-zero invariant-loop decreases-loop) → only_zero_at c.before.before.before.args.m c.before.before.loop.v ≡ not c.maps-to-zero.result
 turn c = ap₂ ◌||◌ (ne_eqb c.before.before.loop.v 0 (omega arith)) (ap not (sym c.maps-to-zero.ensures))
 
 returns : tie.Need-returns invariant-loop decreases-loop
 unfolding invertible
 returns c =
     let before = c.before.before.before.loop.invariant in
-    sym (ap not (fold-met ◌&&◌ true (λ b. refl) 256 _ _ c.before.before.loop-test.true (ap₂ ◌&&◌ before.2 (turn c.before ∙ ap not c.if1.true))))
+    sym (ap not (fold_met ◌&&◌ true (λ b. refl) 256 _ _ c.before.before.loop-test.true (ap₂ ◌&&◌ before.2 (turn c.before ∙ ap not c.if1.true))))
 
 add-v : tie.Need-overflow-add-v invariant-loop decreases-loop
 add-v c = search rules
@@ -53,8 +53,8 @@ returns-2 : tie.Need-returns-2 invariant-loop decreases-loop
 unfolding invertible
 returns-2 c = let end : c.before.loop.v ≡ 256 = omega arith in sym (ap not (rw end at c.before.loop.invariant.2))
 
-pub is-singular-spec : {M : Type 1} → statement M
-is-singular-spec =
+pub is_singular_spec : {M : Type 1} → statement M
+is_singular_spec =
     tie.close
     (tie.spec
     invariant-loop

@@ -2,7 +2,7 @@
 -- Assumes nothing.
 use native.Mathlib.Omega.{arith}
 use lib.Count.{ones-le}
-use Rattle.matrix.proofs.Bits.{ones-bits}
+use Rattle.matrix.proofs.Bits.{ones_bits}
 use Rattle.matrix.proofs.ones_of_byte.Statement.{statement}
 use Rattle.matrix.proofs.ones_of_byte.Tie as tie
 
@@ -10,7 +10,7 @@ cast-result : tie.Need-overflow-cast-result
 cast-result c = omega (arith, ones-le 8 c.args.x c.ranges.x.fits)
 
 returns : tie.Need-returns
-returns c = ones-bits 8 c.args.x c.ranges.x.fits
+returns c = ones_bits 8 c.args.x c.ranges.x.fits
 
-pub ones-of-byte-spec : {M : Type 1} → statement M
-ones-of-byte-spec = tie.close (tie.spec cast-result returns)
+pub ones_of_byte_spec : {M : Type 1} → statement M
+ones_of_byte_spec = tie.close (tie.spec cast-result returns)

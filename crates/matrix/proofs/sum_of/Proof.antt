@@ -5,7 +5,7 @@ use Prim.Native.Nat.{◌-◌, ◌≤◌}
 use native.Mathlib.Omega.{arith}
 use borrow.Author.Rules.{rules}
 use lib.Bits.{bit_xor}
-use Rattle.base.proofs.Fill.{Filled, fill_none, fill_more, fill-all}
+use Rattle.base.proofs.Fill.{Filled, fill_none, fill_more, fill_all}
 use Rattle.matrix.specs.Matrix.{row}
 use Rattle.matrix.proofs.sum_of.Statement.{statement}
 use Rattle.matrix.proofs.sum_of.Tie as tie
@@ -38,10 +38,10 @@ loop-again : tie.Need-loop-preserved invariant-loop decreases-loop
 loop-again c = (omega arith, fill_more c.before.loop.invariant.1 (omega arith) refl)
 
 returns : tie.Need-returns invariant-loop decreases-loop
-returns c = fill-all c.before.loop.invariant.1 (omega arith)
+returns c = fill_all c.before.loop.invariant.1 (omega arith)
 
-pub sum-of-spec : {M : Type 1} → statement M
-sum-of-spec =
+pub sum_of_spec : {M : Type 1} → statement M
+sum_of_spec =
     tie.close
     (tie.spec
     invariant-loop

@@ -7,7 +7,7 @@ use borrow.Author.Rules.{rules}
 use Rattle.matrix.specs.Fold.{fold, sum}
 use Rattle.matrix.specs.Matrix.{entry, weight}
 use Rattle.matrix.proofs.Fold.{fold_more}
-use Rattle.matrix.proofs.Weight.{rows-le}
+use Rattle.matrix.proofs.Weight.{rows_le}
 use Rattle.matrix.proofs.weight_of.Statement.{statement}
 use Rattle.matrix.proofs.weight_of.Tie as tie
 
@@ -34,7 +34,7 @@ more : (c : tie.After-ones-of-byte invariant-loop decreases-loop)
 more c = ap₂ ◌+◌ c.before.before.loop.invariant.1 c.ones-of-byte.ensures ∙ sym (fold_more ◌+◌ 0 _ _)
 
 add-n : tie.Need-overflow-add-n invariant-loop decreases-loop
-add-n c = omega (arith, more c, rows-le c.before.before.before.args.t1 (c.before.before.loop.r + 1))
+add-n c = omega (arith, more c, rows_le c.before.before.before.args.t1 (c.before.before.loop.r + 1))
 
 add_r : tie.Need-overflow-add-r invariant-loop decreases-loop
 add_r c = search rules
@@ -49,8 +49,8 @@ returns : tie.Need-returns invariant-loop decreases-loop
 unfolding weight
 returns c = let all-rows : c.before.loop.r ≡ 8 = omega arith in rw all-rows at c.before.loop.invariant.1
 
-pub weight-of-spec : {M : Type 1} → statement M
-weight-of-spec =
+pub weight_of_spec : {M : Type 1} → statement M
+weight_of_spec =
     tie.close
     (tie.spec
     invariant-loop

@@ -35,8 +35,8 @@ returns-3 c = rw (c.before.before.before.before.plan2.given.1, sym c.before.befo
 returns-4 : tie.Need-returns-4
 returns-4 c = rw (c.before.before.before.plan2.given.1, sym c.before.has-role2.ensures ∙ c.if1.false) c.if1.false
 
-pub has-roles-spec : {M : Type 1} → statement M
-has-roles-spec =
+pub has_roles_spec : {M : Type 1} → statement M
+has_roles_spec =
     tie.close
     (tie.spec
     enum-known-plan

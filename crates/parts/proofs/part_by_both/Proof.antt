@@ -2,12 +2,12 @@
 -- Assumes nothing.
 use borrow.Author.Rules.{rules}
 use mathlib.Core.Path.{ap, ◌∙◌}
-use Rattle.column.specs.Column.{syndromeP, syndromeQ, reedSolomon}
+use Rattle.column.specs.Column.{syndrome_p, syndrome_q, reed_solomon}
 use Rattle.losses.specs.Losses.{without}
-use Rattle.shape.proofs.Columns.{columns-all}
+use Rattle.shape.proofs.Columns.{columns_all}
 use Rattle.stretch.proofs.Laws.{seen}
 use Rattle.sums.specs.declared.Sums.{Sums}
-use Rattle.parts.proofs.Laws.{set-solved}
+use Rattle.parts.proofs.Laws.{set_solved}
 use Rattle.parts.proofs.part_by_both.Statement.{statement}
 use Rattle.parts.proofs.part_by_both.Tie as tie
 
@@ -33,10 +33,10 @@ returns c =
     let n = a.g.n in
     let h = here.requires.0 in
     let sums = c.before.before.before.before.before.before.before.before.before.before.before.before.before.part-survivors in
-    columns-all h.shaped
-    (set-solved h a.rule sums.result.p sums.result.q here.requires.1 here.requires.2 (seen h (λ e. syndromeP n (without a.x a.y e)) (ap (λ (r : Sums). r.p) sums.ensures)) (seen h (λ e. syndromeQ reedSolomon n (without a.x a.y e)) (ap (λ (r : Sums). r.q) sums.ensures)) c.before.before.before.before.before.before.before.before.before.before.solve.ensures c.before.before.before.before.before.before.set.ensures c.before.before.set2.ensures)
+    columns_all h.shaped
+    (set_solved h a.rule sums.result.p sums.result.q here.requires.1 here.requires.2 (seen h (λ e. syndrome_p n (without a.x a.y e)) (ap (λ (r : Sums). r.p) sums.ensures)) (seen h (λ e. syndrome_q reed_solomon n (without a.x a.y e)) (ap (λ (r : Sums). r.q) sums.ensures)) c.before.before.before.before.before.before.before.before.before.before.solve.ensures c.before.before.before.before.before.before.set.ensures c.before.before.set2.ensures)
 
-pub part-by-both-spec : {M : Type 1} → statement M
-part-by-both-spec =
+pub part_by_both_spec : {M : Type 1} → statement M
+part_by_both_spec =
     tie.close
     (tie.spec part-survivors-requires solve-requires set-requires set-requires-2 same_length returns)

@@ -4,10 +4,10 @@ use borrow.Author.Rules.{rules}
 use mathlib.Core.Path.{ap}
 use Prim.Native.Nat.{ℕ, ◌+◌}
 use Rattle.column.specs.Column.{put}
-use Rattle.losses.specs.Losses.{byP}
+use Rattle.losses.specs.Losses.{by_p}
 use Rattle.shape.specs.Layout.{column}
-use Rattle.shape.proofs.Columns.{columns-as, columns-all}
-use Rattle.stretch.proofs.Laws.{seen, set-columns}
+use Rattle.shape.proofs.Columns.{columns_as, columns_all}
+use Rattle.stretch.proofs.Laws.{seen, set_columns}
 use Rattle.parts.proofs.part_by_p.Statement.{statement}
 use Rattle.parts.proofs.part_by_p.Tie as tie
 
@@ -25,8 +25,8 @@ returns c =
     let here = c.before.before.before.before.before.before.before in
     let a = here.args in
     let h = here.requires.0 in
-    columns-all h.shaped
-    (columns-as (set-columns h here.requires.1 c.before.before.before.before.sum-without.result c.before.before.set.ensures) (λ j l. ap (λ (v : ℕ). put a.x v (column a.g a.stripe.now (0 + j))) (seen h (byP a.g.n a.x) c.before.before.before.before.sum-without.ensures j l)))
+    columns_all h.shaped
+    (columns_as (set_columns h here.requires.1 c.before.before.before.before.sum-without.result c.before.before.set.ensures) (λ j l. ap (λ (v : ℕ). put a.x v (column a.g a.stripe.now (0 + j))) (seen h (by_p a.g.n a.x) c.before.before.before.before.sum-without.ensures j l)))
 
-pub part-by-p-spec : {M : Type 1} → statement M
-part-by-p-spec = tie.close (tie.spec sum-without-requires set-requires same_length returns)
+pub part_by_p_spec : {M : Type 1} → statement M
+part_by_p_spec = tie.close (tie.spec sum-without-requires set-requires same_length returns)

@@ -4,12 +4,12 @@ use borrow.Author.Rules.{rules}
 use mathlib.Core.Path.{◌≡◌, ap, ap₂, ◌∙◌}
 use Prim.Native.Nat.{ℕ, ◌+◌}
 use native.Mathlib.Omega.{arith}
-use Rattle.column.specs.Column.{Column, put, syndromeP, syndromeQ, reedSolomon}
+use Rattle.column.specs.Column.{Column, put, syndrome_p, syndrome_q, reed_solomon}
 use Rattle.losses.specs.Losses.{without}
-use Rattle.losses.proofs.Without.{parities-lost}
+use Rattle.losses.proofs.Without.{parities_lost}
 use Rattle.shape.specs.Layout.{column}
-use Rattle.shape.proofs.Columns.{columns-as, columns-all}
-use Rattle.stretch.proofs.Laws.{seen, set-columns, set-two}
+use Rattle.shape.proofs.Columns.{columns_as, columns_all}
+use Rattle.stretch.proofs.Laws.{seen, set_columns, set_two}
 use Rattle.sums.specs.declared.Sums.{Sums}
 use Rattle.parts.proofs.part_from_data.Statement.{statement}
 use Rattle.parts.proofs.part_from_data.Tie as tie
@@ -41,9 +41,9 @@ returns c =
     let e : ℕ → Column = λ j. column a.g a.stripe.now (0 + j) in
     let sums = c.before.before.before.before.before.before.before.before.before.before.before.before.part-survivors in
     rw c.before.before.before.before.if1.true
-    (columns-all h.shaped
-    (columns-as (set-two h sums.result.p sums.result.q (omega arith) (omega arith) c.before.before.before.before.before.before.before.set.ensures c.before.before.set2.ensures)
-    (λ j l. ap₂ (λ (v w : ℕ). put n v (put (n + 1) w (e j))) (seen h (λ c. syndromeP n (without n (n + 1) c)) (ap (λ (r : Sums). r.p) sums.ensures) j l ∙ (parities-lost n (e j)).0) (seen h (λ c. syndromeQ reedSolomon n (without n (n + 1) c)) (ap (λ (r : Sums). r.q) sums.ensures) j l ∙ (parities-lost n (e j)).1))))
+    (columns_all h.shaped
+    (columns_as (set_two h sums.result.p sums.result.q (omega arith) (omega arith) c.before.before.before.before.before.before.before.set.ensures c.before.before.set2.ensures)
+    (λ j l. ap₂ (λ (v w : ℕ). put n v (put (n + 1) w (e j))) (seen h (λ c. syndrome_p n (without n (n + 1) c)) (ap (λ (r : Sums). r.p) sums.ensures) j l ∙ (parities_lost n (e j)).0) (seen h (λ c. syndrome_q reed_solomon n (without n (n + 1) c)) (ap (λ (r : Sums). r.q) sums.ensures) j l ∙ (parities_lost n (e j)).1))))
 
 same-length-2 : tie.Need-same-length-2
 same-length-2 c = c.before.before.before.set.auto.1.0
@@ -57,11 +57,11 @@ returns-2 c =
     let e : ℕ → Column = λ j. column a.g a.stripe.now (0 + j) in
     let sums = c.before.before.before.before.before.before.before.before.part-survivors in
     rw c.if1.false
-    (columns-all h.shaped
-    (columns-as (set-columns h (omega arith) sums.result.q c.before.before.before.set.ensures) (λ j l. ap (λ (w : ℕ). put (n + 1) w (e j)) (seen h (λ c. syndromeQ reedSolomon n (without n (n + 1) c)) (ap (λ (r : Sums). r.q) sums.ensures) j l ∙ (parities-lost n (e j)).1))))
+    (columns_all h.shaped
+    (columns_as (set_columns h (omega arith) sums.result.q c.before.before.before.set.ensures) (λ j l. ap (λ (w : ℕ). put (n + 1) w (e j)) (seen h (λ c. syndrome_q reed_solomon n (without n (n + 1) c)) (ap (λ (r : Sums). r.q) sums.ensures) j l ∙ (parities_lost n (e j)).1))))
 
-pub part-from-data-spec : {M : Type 1} → statement M
-part-from-data-spec =
+pub part_from_data_spec : {M : Type 1} → statement M
+part_from_data_spec =
     tie.close
     (tie.spec
     add-part-survivors

@@ -40,8 +40,8 @@ same-length-3 c = c.before.before.part-by-both.auto.1.0
 returns-3 : tie.Need-returns-3
 returns-3 c = rw c.before.before.before.before.before.plan3.given.1 c.before.before.part-by-both.ensures
 
-pub restore-by-plan-spec : {M : Type 1} → statement M
-restore-by-plan-spec =
+pub restore_by_plan_spec : {M : Type 1} → statement M
+restore_by_plan_spec =
     tie.close
     (tie.spec
     enum-known-plan

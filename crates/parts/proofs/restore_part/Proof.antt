@@ -5,8 +5,8 @@ use borrow.Author.Tests.{not-true, not-false}
 use mathlib.Core.Path.{sym, ◌∙◌}
 use Rattle.losses.specs.Losses.{KnownPlan}
 use Rattle.stretch.specs.Stretch.{Has}
-use Rattle.stretch.proofs.Laws.{has, has-true}
-use Rattle.parts.proofs.Laws.{known, part-is}
+use Rattle.stretch.proofs.Laws.{has, has_true}
+use Rattle.parts.proofs.Laws.{known, part_is}
 use Rattle.parts.proofs.restore_part.Statement.{statement}
 use Rattle.parts.proofs.restore_part.Tie as tie
 
@@ -23,7 +23,7 @@ has-roles-requires : tie.Need-has-roles-requires
 has-roles-requires c κs = search rules
 
 returns-2 : tie.Need-returns-2
-returns-2 c = let a = c.before.before.before.before.before.args in rw (has-true a.g a.stripe.now 0 a.g.b (there c.before.before), sym c.before.has-roles.ensures ∙ not-true _ c.if2.true)
+returns-2 c = let a = c.before.before.before.before.before.args in rw (has_true a.g a.stripe.now 0 a.g.b (there c.before.before), sym c.before.has-roles.ensures ∙ not-true _ c.if2.true)
 
 roles : (c : tie.Else2) → let a = c.before.before.before.before.before.args in KnownPlan a.g.n a.plan
 roles c = let a = c.before.before.before.before.before.args in known a.g.n a.plan (sym c.before.has-roles.ensures ∙ not-false _ c.if2.false)
@@ -37,10 +37,10 @@ same_length c = search rules
 returns-3 : tie.Need-returns-3
 returns-3 c =
     let a = c.before.before.before.before.before.before.before.before.before.args in
-    c.before.before.restore-by-plan.ensures ∙ sym (part-is a.g a.plan a.stripe.now (there c.before.before.before.before.before.before) (roles c.before.before.before.before))
+    c.before.before.restore-by-plan.ensures ∙ sym (part_is a.g a.plan a.stripe.now (there c.before.before.before.before.before.before) (roles c.before.before.before.before))
 
-pub restore-part-spec : {M : Type 1} → statement M
-restore-part-spec =
+pub restore_part_spec : {M : Type 1} → statement M
+restore_part_spec =
     tie.close
     (tie.spec
     has-columns-requires

@@ -22,5 +22,5 @@ returns-2 c = rw c.enum_told.given.1
 returns-3 : tie.Need-returns-3
 returns-3 c = search rules
 
-pub alone-spec : {M : Type 1} → statement M
-alone-spec = tie.close (tie.spec enum-known-lost enum_told enum-told-2 returns returns-2 returns-3)
+pub alone_spec : {M : Type 1} → statement M
+alone_spec = tie.close (tie.spec enum-known-lost enum_told enum-told-2 returns returns-2 returns-3)

@@ -6,9 +6,9 @@ use Prim.Native.Nat.{ℕ}
 use borrow.Author.Rules.{rules}
 use Rattle.gf256.specs.declared.Element.{Element}
 use Rattle.gf256.specs.Field.{element, sum, product, power, reciprocal}
-use Rattle.gf256.proofs.Laws.{inverse-value, inverse-none}
+use Rattle.gf256.proofs.Laws.{inverse_value, inverse_none}
 use Rattle.column.specs.Column.{ratio, divisor}
-use Rattle.column.proofs.ReedSolomon.{divisor-nonzero, coefficients-are}
+use Rattle.column.proofs.ReedSolomon.{divisor_nonzero, coefficients_are}
 use Rattle.losses.specs.declared.Rule.TheVariants.{Mixed}
 use Rattle.plans.proofs.coefficients.Statement.{statement}
 use Rattle.plans.proofs.coefficients.Tie as tie
@@ -21,25 +21,25 @@ module _ (c : tie.After-inverse) where
   y = c.before.before.before.before.before.args.y
 
   other : divisor x y ≢ 0
-  other = let h = c.before.before.before.before.before.requires in divisor-nonzero x y h.0 h.1 h.2
+  other = let h = c.before.before.before.before.before.requires in divisor_nonzero x y h.0 h.1 h.2
 
-  is-ratio : c.before.before.product.result.0 ≡ ratio y x
-  is-ratio =
+  is_ratio : c.before.before.product.result.0 ≡ ratio y x
+  is_ratio =
       c.before.before.product.ensures ∙ ap₂ product c.before.before.before.power-of-disk.ensures c.before.before.before.before.over-power.ensures
 
   is_divisor : c.before.sum.result.0 ≡ divisor x y
-  is_divisor = c.before.sum.ensures ∙ ap (λ (v : ℕ). sum v 1) is-ratio
+  is_divisor = c.before.sum.ensures ∙ ap (λ (v : ℕ). sum v 1) is_ratio
 
-  divided-by : c.before.sum.result.0 ≢ 0
-  divided-by = subst (λ (v : ℕ). v ≢ 0) (sym is_divisor) other
+  divided_by : c.before.sum.result.0 ≢ 0
+  divided_by = subst (λ (v : ℕ). v ≢ 0) (sym is_divisor) other
 
-is-scale : (c : tie.At-match-branch) → c.match.scale.0 ≡ reciprocal (divisor (x c.before) (y c.before)) (other c.before)
-is-scale c =
+is_scale : (c : tie.At-match-branch) → c.match.scale.0 ≡ reciprocal (divisor (x c.before) (y c.before)) (other c.before)
+is_scale c =
     let i = c.before in
     ⊎_elim
     (λ found.
     ap (λ (e : Element). e.0) found.3
-    ∙ inverse-value i.before.sum.result.0 (divided-by i) (sym i.inverse.ensures ∙ found.1.given.1)
+    ∙ inverse_value i.before.sum.result.0 (divided_by i) (sym i.inverse.ensures ∙ found.1.given.1)
     ∙ ap (λ (v : ℕ). power v 254) (is_divisor i))
     (λ none. absurd none.2.ensures)
     c.match.branch
@@ -68,7 +68,7 @@ enum_told c = search rules
 never-requires : tie.Need-never-requires
 never-requires c κs =
     let i = c.before.before in
-    divided-by i ((inverse-none i.before.sum.result.0).0 (sym i.inverse.ensures ∙ c.enum_told.given.1))
+    divided_by i ((inverse_none i.before.sum.result.0).0 (sym i.inverse.ensures ∙ c.enum_told.given.1))
 
 product-requires-2 : tie.Need-product-requires-2
 product-requires-2 c κs = search rules
@@ -79,13 +79,13 @@ product-requires-3 c κs = search rules
 returns : tie.Need-returns
 returns c =
     let i = c.before.before.before in
-    rw (coefficients-are (x i) (y i) (other i))
+    rw (coefficients_are (x i) (y i) (other i))
     (ap₂ (λ (a b : ℕ). Mixed (element a) (element b))
-    (c.before.product2.ensures ∙ ap₂ product (is-ratio i) (is-scale c.before.before))
-    (c.product3.ensures ∙ ap₂ product i.before.before.before.before.over-power.ensures (is-scale c.before.before)))
+    (c.before.product2.ensures ∙ ap₂ product (is_ratio i) (is_scale c.before.before))
+    (c.product3.ensures ∙ ap₂ product i.before.before.before.before.over-power.ensures (is_scale c.before.before)))
 
-pub coefficients-spec : {M : Type 1} → statement M
-coefficients-spec =
+pub coefficients_spec : {M : Type 1} → statement M
+coefficients_spec =
     tie.close
     (tie.spec
     over-power-requires

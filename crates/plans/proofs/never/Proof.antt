@@ -18,5 +18,5 @@ loop-less c = absurd c.loop.invariant
 loop-again : tie.Need-loop-preserved invariant-loop decreases-loop
 loop-again c = c.loop.invariant
 
-pub never-spec : {M : Type 1} → statement M
-never-spec = tie.close (tie.spec invariant-loop decreases-loop loop-holds loop-less loop-again)
+pub never_spec : {M : Type 1} → statement M
+never_spec = tie.close (tie.spec invariant-loop decreases-loop loop-holds loop-less loop-again)

@@ -6,23 +6,23 @@ use borrow.Author.Rules.{rules}
 use borrow.Author.Tests.{eq-eqb, ne_eqb}
 use Rattle.column.specs.declared.Lost.{Lost}
 use Rattle.column.specs.Loss.{KnownLoss}
-use Rattle.shape.proofs.Refused.{shape-accepted}
-use Rattle.devices.specs.Refusals.{rebuildRefusal}
-use Rattle.devices.proofs.Refused.{rebuild-accepted}
+use Rattle.shape.proofs.Refused.{shape_accepted}
+use Rattle.devices.specs.Refusals.{rebuild_refusal}
+use Rattle.devices.proofs.Refused.{rebuild_accepted}
 use Rattle.plans.specs.declared.Asked.TheVariants.{Rebuild}
 use Rattle.plans.proofs.plan_of.Statement.{statement}
 use Rattle.plans.proofs.plan_of.Tie as tie
 
 module _ (c : tie.Else1) where
-  is_zero : let a = c.before.before.args in rebuildRefusal a.g a.len a.lost ≡ 0
+  is_zero : let a = c.before.before.args in rebuild_refusal a.g a.len a.lost ≡ 0
   is_zero = sym c.before.rebuild-refusal.ensures ∙ c.if1.false
 
   -- at most 255 disks, and different ones that the stripe has
   accepted : let a = c.before.before.args in (a.g.n ≤ 255) × KnownLoss a.g.n a.lost
   accepted =
       let a = c.before.before.args in
-      let told = rebuild-accepted a.g a.len a.lost is_zero in
-      ((shape-accepted a.g a.len told.0).0.disks, told.1)
+      let told = rebuild_accepted a.g a.len a.lost is_zero in
+      ((shape_accepted a.g a.len told.0).0.disks, told.1)
 
 rebuild-refusal-requires : tie.Need-rebuild-refusal-requires
 rebuild-refusal-requires c κs = search rules
@@ -58,8 +58,8 @@ returns-3 c =
     let tested = c.before.before.before.before in
     rw (eq-eqb _ _ (is_zero tested), c.before.before.lost2.given.1) (ap Rebuild c.together.ensures)
 
-pub plan-of-spec : {M : Type 1} → statement M
-plan-of-spec =
+pub plan_of_spec : {M : Type 1} → statement M
+plan_of_spec =
     tie.close
     (tie.spec
     rebuild-refusal-requires

@@ -88,8 +88,8 @@ returns-6 c = rw (c.before.before.enum-told4.given.1, c.enum-told5.given.1)
 returns-7 : tie.Need-returns-7
 returns-7 c = rw (c.before.before.before.enum-told4.given.1, c.before.enum-told6.given.1) c.alone2.ensures
 
-pub together-spec : {M : Type 1} → statement M
-together-spec =
+pub together_spec : {M : Type 1} → statement M
+together_spec =
     tie.close
     (tie.spec
     enum-known-first

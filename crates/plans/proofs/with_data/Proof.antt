@@ -43,8 +43,8 @@ returns-2 c = rw (c.before.enum_told.given.1, ← c.over-power.ensures)
 returns-3 : tie.Need-returns-3
 returns-3 c = rw (c.before.enum-told2.given.1, ← c.power-of-disk.ensures)
 
-pub with-data-spec : {M : Type 1} → statement M
-with-data-spec =
+pub with_data_spec : {M : Type 1} → statement M
+with_data_spec =
     tie.close
     (tie.spec
     enum-known-other

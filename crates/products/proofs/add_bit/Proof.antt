@@ -16,5 +16,5 @@ returns c = let m = c.before.before.args.m in c.sum.ensures ∙ sym (rw (eq-eqb 
 returns-2 : tie.Need-returns-2
 returns-2 c = let m = c.before.args.m in sym (rw (ne_eqb (m % 2) 1 c.if1.false))
 
-pub add-bit-spec : {M : Type 1} → statement M
-add-bit-spec = tie.close (tie.spec sum-requires returns returns-2)
+pub add_bit_spec : {M : Type 1} → statement M
+add_bit_spec = tie.close (tie.spec sum-requires returns returns-2)

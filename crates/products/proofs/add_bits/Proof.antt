@@ -6,14 +6,14 @@ use native.Mathlib.Omega.{arith}
 use borrow.Author.Rules.{rules}
 use lib.ListN.{get_or}
 use Rattle.gf256.specs.Field.{double}
-use Rattle.base.proofs.Fill.{Filled, fill_none, fill_more, fill-all}
+use Rattle.base.proofs.Fill.{Filled, fill_none, fill_more, fill_all}
 use Rattle.chunk.specs.Chunk.{width}
-use Rattle.products.specs.Products.{plusBit}
+use Rattle.products.specs.Products.{plus_bit}
 use Rattle.products.proofs.add_bits.Statement.{statement}
 use Rattle.products.proofs.add_bits.Tie as tie
 
 abbrev invariant-loop : tie.invariant-loop
-invariant-loop d₀ m x n y j₀ d j = (j ≤ width) × Filled (λ j v. plusBit (plusBit (double v) m (get_or x j 0)) n (get_or y j 0)) width d₀ d j
+invariant-loop d₀ m x n y j₀ d j = (j ≤ width) × Filled (λ j v. plus_bit (plus_bit (double v) m (get_or x j 0)) n (get_or y j 0)) width d₀ d j
 
 abbrev decreases-loop : tie.decreases-loop
 decreases-loop d₀ m x n y j₀ d j = width - j
@@ -54,10 +54,10 @@ loop-again c =
     (omega arith, fill_more l.invariant.1 (omega arith) (rw (c.before.before.add-bit.ensures, c.before.before.before.before.double.ensures) at c.add-bit2.ensures))
 
 returns : tie.Need-returns invariant-loop decreases-loop
-returns c = fill-all c.before.loop.invariant.1 (omega arith)
+returns c = fill_all c.before.loop.invariant.1 (omega arith)
 
-pub add-bits-spec : {M : Type 1} → statement M
-add-bits-spec =
+pub add_bits_spec : {M : Type 1} → statement M
+add_bits_spec =
     tie.close
     (tie.spec
     invariant-loop

@@ -8,9 +8,9 @@ use mir.Syntax.{w8}
 use borrow.Author.Rules.{rules, elem_Fits}
 use lib.ListN.{length, get_or}
 use Rattle.gf256.specs.Field.{sum, double, product}
-use Rattle.base.proofs.Table.{length-tabulate, get_d_tabulate, is-tabulate}
+use Rattle.base.proofs.Table.{length_tabulate, get_d_tabulate, is_tabulate}
 use Rattle.chunk.specs.Chunk.{width}
-use Rattle.products.proofs.Digits.{double-lt, no_digit, even-digit, odd-digit}
+use Rattle.products.proofs.Digits.{double_lt, no_digit, even_digit, odd_digit}
 use Rattle.products.proofs.add_product.Statement.{statement}
 use Rattle.products.proofs.add_product.Tie as tie
 
@@ -49,9 +49,9 @@ digit c =
     ⊎_elim
     (λ w.
     let a = w.4 ∙ w.3.ensures in
-    (ap length a ∙ length-tabulate _ _, λ j p. rw (a, get_d_tabulate) (odd-digit l.invariant.0 (l.invariant.2 j p) (get_or l.a j 0) w.0.taken)))
+    (ap length a ∙ length_tabulate _ _, λ j p. rw (a, get_d_tabulate) (odd_digit l.invariant.0 (l.invariant.2 j p) (get_or l.a j 0) w.0.taken)))
     (λ w.
-    (ap length w.1 ∙ l.invariant.1, λ j p. rw w.1 (even-digit l.invariant.0 (l.invariant.2 j p) (get_or l.a j 0) (omega (arith, w.0.left)))))
+    (ap length w.1 ∙ l.invariant.1, λ j p. rw w.1 (even_digit l.invariant.0 (l.invariant.2 j p) (get_or l.a j 0) (omega (arith, w.0.left)))))
     c.if1.branch
 
 loop-again : tie.Need-loop-preserved invariant-loop decreases-loop
@@ -61,17 +61,17 @@ loop-again c =
     let x = c.double.ensures in (
       omega arith,
       here.0,
-      λ j p. rw (x, get_d_tabulate) (double-lt (get_or l.x j 0) (l.invariant.2 j p)),
+      λ j p. rw (x, get_d_tabulate) (double_lt (get_or l.x j 0) (l.invariant.2 j p)),
       λ j p. rw (x, get_d_tabulate) (here.1 j p ∙ l.invariant.3 j p),
     )
 
 returns : tie.Need-returns invariant-loop decreases-loop
 returns c =
     let l = c.before.loop in
-    is-tabulate width _ l.a l.invariant.1
+    is_tabulate width _ l.a l.invariant.1
     (λ j p. sym (no_digit (get_or l.a j 0) (get_or l.x j 0) c.loop-test.false) ∙ l.invariant.3 j p)
 
-pub add-product-spec : {M : Type 1} → statement M
-add-product-spec =
+pub add_product_spec : {M : Type 1} → statement M
+add_product_spec =
     tie.close
     (tie.spec invariant-loop decreases-loop loop-holds add-requires double-requires loop-less loop-again returns)

@@ -4,7 +4,7 @@ use Prim.Native.Nat.{◌-◌, ◌≤◌}
 use native.Mathlib.Omega.{arith}
 use borrow.Author.Rules.{rules}
 use Rattle.gf256.specs.Field.{double}
-use Rattle.base.proofs.Fill.{Filled, fill_none, fill_more, fill-all}
+use Rattle.base.proofs.Fill.{Filled, fill_none, fill_more, fill_all}
 use Rattle.chunk.specs.Chunk.{width}
 use Rattle.products.proofs.double.Statement.{statement}
 use Rattle.products.proofs.double.Tie as tie
@@ -37,10 +37,10 @@ loop-again : tie.Need-loop-preserved invariant-loop decreases-loop
 loop-again c = (omega arith, fill_more c.before.before.before.loop.invariant.1 (omega arith) c.double.ensures)
 
 returns : tie.Need-returns invariant-loop decreases-loop
-returns c = fill-all c.before.loop.invariant.1 (omega arith)
+returns c = fill_all c.before.loop.invariant.1 (omega arith)
 
-pub double-spec : {M : Type 1} → statement M
-double-spec =
+pub double_spec : {M : Type 1} → statement M
+double_spec =
     tie.close
     (tie.spec
     invariant-loop

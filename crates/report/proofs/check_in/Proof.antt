@@ -7,14 +7,14 @@ use native.Mathlib.Omega.{arith}
 use borrow.Author.Rules.{rules}
 use lib.ListN.{length, take, drop}
 use Rattle.stripe.specs.declared.Checked.TheVariants.{Summary}
-use Rattle.stripe.specs.Calls.{checkedOf}
-use Rattle.shape.specs.Refusals.{checkRefusal}
-use Rattle.shape.proofs.Refused.{check-accepted}
-use Rattle.compare.specs.Compare.{verdicts, afterCheck}
+use Rattle.stripe.specs.Calls.{checked_of}
+use Rattle.shape.specs.Refusals.{check_refusal}
+use Rattle.shape.proofs.Refused.{check_accepted}
+use Rattle.compare.specs.Compare.{verdicts, after_check}
 use Rattle.verdict.specs.Summary.{summary}
-use Rattle.base.proofs.Refused.{left-done}
-use Rattle.header.specs.Fields.{bigEndian, fields}
-use Rattle.base.proofs.Tails.{put-tail}
+use Rattle.base.proofs.Refused.{left_done}
+use Rattle.header.specs.Fields.{big_endian, fields}
+use Rattle.base.proofs.Tails.{put_tail}
 use Rattle.report.proofs.check_in.Statement.{statement}
 use Rattle.report.proofs.check_in.Tie as tie
 
@@ -22,19 +22,19 @@ use Rattle.report.proofs.check_in.Tie as tie
 columns : (c : tie.After-slice-known3) → let a = c.before.before.before.before.before.before.before.args in length a.room.now ≡ a.g.b
 columns c =
     let s = c.before.before.before.before.before.before.before in
-    (check-accepted s.args.g (length s.args.stripe.now) (length s.args.room.now) s.requires.0).1
+    (check_accepted s.args.g (length s.args.stripe.now) (length s.args.room.now) s.requires.0).1
 
 done : (c : tie.After-slice-known3) → c.before.before.check.result ≡ Summary (summary (verdicts c.before.before.before.before.before.before.before.args.g c.before.before.before.before.before.before.before.args.stripe.now))
 done c =
     let a = c.before.before.before.before.before.before.before.args in
-    c.before.before.check.ensures.result ∙ ap (λ (k : ℕ). checkedOf k (summary (verdicts a.g a.stripe.now))) c.before.before.before.before.before.before.before.requires.0
+    c.before.before.check.ensures.result ∙ ap (λ (k : ℕ). checked_of k (summary (verdicts a.g a.stripe.now))) c.before.before.before.before.before.before.before.requires.0
 
 left : (c : tie.After-slice-known3) → c.before.before.check.new.1.1.0 ≡ verdicts c.before.before.before.before.before.before.before.args.g c.before.before.before.before.before.before.before.args.stripe.now
-unfolding afterCheck
+unfolding after_check
 left c =
     let a = c.before.before.before.before.before.before.before.args in
     c.before.before.check.ensures.room
-    ∙ left-done (checkRefusal a.g (length a.stripe.now) (length a.room.now)) (verdicts a.g a.stripe.now) a.room.now c.before.before.before.before.before.before.before.requires.0
+    ∙ left_done (check_refusal a.g (length a.stripe.now) (length a.room.now)) (verdicts a.g a.stripe.now) a.room.now c.before.before.before.before.before.before.before.requires.0
 
 check-requires : tie.Need-check-requires
 check-requires c κs = search rules
@@ -92,13 +92,13 @@ returns-2 c =
     let first : v ≡ summary (verdicts a.g a.stripe.now) = cc in
     let room = left c.before.before.before.before.before.before.before.before.before.before.before.before.before.before in (
       room,
-      put-tail 2 c.before.before.before.before.before.before.before.copy.new.1.0 c.before.before.put_all.new.1.0
+      put_tail 2 c.before.before.before.before.before.before.before.copy.new.1.0 c.before.before.put_all.new.1.0
           ∙ ap₂ (λ (l m : List ℕ). take 2 l ++ m) (c.before.before.before.before.before.before.before.copy.ensures.1 ∙ ap (λ (p : List ℕ). take (length p) p ++ drop (length p) a.out.now) c.before.before.before.before.before.before.before.before.before.before.big_endian.ensures) c.before.before.put_all.ensures
-          ∙ ap₂ (λ (k : ℕ) (l : List ℕ). bigEndian k ++ fields l) first room,
+          ∙ ap₂ (λ (k : ℕ) (l : List ℕ). big_endian k ++ fields l) first room,
     )
 
-pub check-in-spec : {M : Type 1} → statement M
-check-in-spec =
+pub check_in_spec : {M : Type 1} → statement M
+check_in_spec =
     tie.close
     (tie.spec
     check-requires

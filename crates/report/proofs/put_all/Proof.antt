@@ -7,7 +7,7 @@ use native.Mathlib.Omega.{arith}
 use borrow.Author.Rules.{rules}
 use lib.ListN.{length, get_or, take, drop, set, length-set}
 use Rattle.header.specs.Fields.{fields}
-use Rattle.header.proofs.Fielded.{fields-more, fields-all}
+use Rattle.header.proofs.Fielded.{fields_more, fields_all}
 use Rattle.report.proofs.put_all.Statement.{statement}
 use Rattle.report.proofs.put_all.Tie as tie
 
@@ -65,7 +65,7 @@ loop-again c =
       omega arith,
       simp length-set l.invariant.1,
       ap₂ (λ (p o : List ℕ). set (set o (2 * l.i) (get_or p 0 0)) (2 * l.i + 1) (get_or p 1 0)) c.big_endian.ensures l.invariant.2
-          ∙ fields-more s.args.values.now s.args.out.now l.i (omega arith) (omega (arith, s.requires)),
+          ∙ fields_more s.args.values.now s.args.out.now l.i (omega arith) (omega (arith, s.requires)),
     )
 
 same_length : tie.Need-same-length invariant-loop decreases-loop
@@ -75,10 +75,10 @@ returns : tie.Need-returns invariant-loop decreases-loop
 returns c =
     let a = c.before.before.before.before.args in
     let l = c.before.loop in
-    l.invariant.2 ∙ fields-all a.values.now a.out.now l.i (omega arith) c.before.before.before.before.requires
+    l.invariant.2 ∙ fields_all a.values.now a.out.now l.i (omega arith) c.before.before.before.before.requires
 
-pub put-all-spec : {M : Type 1} → statement M
-put-all-spec =
+pub put_all_spec : {M : Type 1} → statement M
+put_all_spec =
     tie.close
     (tie.spec
     invariant-loop

@@ -31,8 +31,8 @@ same-length-2 c = c.before.before.set-carried.ensures.kept
 returns-2 : tie.Need-returns-2
 returns-2 c = rw c.before.before.before.before.before.rule2.given.1 c.before.before.set-carried.ensures
 
-pub restore-by-both-spec : {M : Type 1} → statement M
-restore-by-both-spec =
+pub restore_by_both_spec : {M : Type 1} → statement M
+restore_by_both_spec =
     tie.close
     (tie.spec
     survivors-requires

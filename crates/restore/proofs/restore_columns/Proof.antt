@@ -4,7 +4,7 @@ use borrow.Author.Rules.{rules}
 use mathlib.Core.Path.{◌∙◌}
 use native.Mathlib.Omega.{arith}
 use Rattle.stretch.specs.Stretch.{Has}
-use Rattle.parts.proofs.Laws.{part-is}
+use Rattle.parts.proofs.Laws.{part_is}
 use Rattle.restore.proofs.restore_columns.Statement.{statement}
 use Rattle.restore.proofs.restore_columns.Tie as tie
 
@@ -19,7 +19,7 @@ returns c =
     let here = c.before.before.before.before.before.before.before in
     let a = here.args in
     let whole : Has a.g a.stripe.now 0 a.g.b = record { shaped = here.requires.0; fits = omega arith; held = omega arith } in
-    c.before.before.restore-part.ensures ∙ part-is a.g a.plan a.stripe.now whole here.requires.1
+    c.before.before.restore-part.ensures ∙ part_is a.g a.plan a.stripe.now whole here.requires.1
 
 enum-known-plan : tie.Need-enum-known-plan
 enum-known-plan c = search rules
@@ -57,8 +57,8 @@ same-length-4 c = c.before.before.columns-by-both.auto.1.0
 returns-4 : tie.Need-returns-4
 returns-4 c = rw c.before.before.before.before.before.plan3.given.1 c.before.before.columns-by-both.ensures
 
-pub restore-columns-spec : {M : Type 1} → statement M
-restore-columns-spec =
+pub restore_columns_spec : {M : Type 1} → statement M
+restore_columns_spec =
     tie.close
     (tie.spec
     restore-part-requires

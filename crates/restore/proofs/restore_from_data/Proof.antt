@@ -4,10 +4,10 @@ use borrow.Author.Rules.{rules}
 use mathlib.Core.Path.{ap, ap₂, ◌∙◌}
 use Prim.Native.Nat.{ℕ, ◌+◌}
 use native.Mathlib.Omega.{arith}
-use Rattle.column.specs.Column.{put, parityP, parityQ, reedSolomon}
+use Rattle.column.specs.Column.{put, parity_p, parity_q, reed_solomon}
 use Rattle.shape.specs.Layout.{column}
-use Rattle.shape.proofs.Columns.{columns-as}
-use Rattle.stretch.proofs.Laws.{seen, set-columns, set-two}
+use Rattle.shape.proofs.Columns.{columns_as}
+use Rattle.stretch.proofs.Laws.{seen, set_columns, set_two}
 use Rattle.sums.specs.declared.Sums.{Sums}
 use Rattle.restore.proofs.restore_from_data.Statement.{statement}
 use Rattle.restore.proofs.restore_from_data.Tie as tie
@@ -35,8 +35,8 @@ returns c =
     let h = here.requires in
     let sums = c.before.before.before.before.before.before.before.before.before.before.before.before.parities in
     rw c.before.before.before.before.if1.true
-    (columns-as (set-two h sums.result.p sums.result.q (omega arith) (omega arith) c.before.before.before.before.before.before.before.set.ensures c.before.before.set2.ensures)
-    (λ j l. ap₂ (λ (v w : ℕ). put n v (put (n + 1) w (column a.g a.stripe.now (a.i + j)))) (seen h (parityP n) (ap (λ (r : Sums). r.p) sums.ensures) j l) (seen h (parityQ reedSolomon n) (ap (λ (r : Sums). r.q) sums.ensures) j l)))
+    (columns_as (set_two h sums.result.p sums.result.q (omega arith) (omega arith) c.before.before.before.before.before.before.before.set.ensures c.before.before.set2.ensures)
+    (λ j l. ap₂ (λ (v w : ℕ). put n v (put (n + 1) w (column a.g a.stripe.now (a.i + j)))) (seen h (parity_p n) (ap (λ (r : Sums). r.p) sums.ensures) j l) (seen h (parity_q reed_solomon n) (ap (λ (r : Sums). r.q) sums.ensures) j l)))
 
 same-length-2 : tie.Need-same-length-2
 same-length-2 c = c.before.before.before.set.auto.1.0
@@ -49,10 +49,10 @@ returns-2 c =
     let h = here.requires in
     let sums = c.before.before.before.before.before.before.before.before.parities in
     rw c.if1.false
-    (columns-as (set-columns h (omega arith) sums.result.q c.before.before.before.set.ensures) (λ j l. ap (λ (w : ℕ). put (n + 1) w (column a.g a.stripe.now (a.i + j))) (seen h (parityQ reedSolomon n) (ap (λ (r : Sums). r.q) sums.ensures) j l)))
+    (columns_as (set_columns h (omega arith) sums.result.q c.before.before.before.set.ensures) (λ j l. ap (λ (w : ℕ). put (n + 1) w (column a.g a.stripe.now (a.i + j))) (seen h (parity_q reed_solomon n) (ap (λ (r : Sums). r.q) sums.ensures) j l)))
 
-pub restore-from-data-spec : {M : Type 1} → statement M
-restore-from-data-spec =
+pub restore_from_data_spec : {M : Type 1} → statement M
+restore_from_data_spec =
     tie.close
     (tie.spec
     parities-requires

@@ -2,7 +2,7 @@
 -- Assumes nothing.
 use borrow.Author.Rules.{rules}
 use mathlib.Core.Path.{sym, ◌∙◌}
-use Rattle.sums.proofs.Strips.{strip-fits}
+use Rattle.sums.proofs.Strips.{strip_fits}
 use Rattle.restore.proofs.restore_known.Statement.{statement}
 use Rattle.restore.proofs.restore_known.Tie as tie
 
@@ -31,7 +31,7 @@ restore-strips-requires : tie.Need-restore-strips-requires
 restore-strips-requires c κs =
     let here = c.before.before.before.before.before.before.before in
     let roles = rw c.before.before.before.before.plan2.given.1 at here.requires.1 in
-    (here.requires.0, strip-fits here.args.g (sym c.before.before.in-strips.ensures ∙ c.before.if2.true), roles.0, roles.1)
+    (here.requires.0, strip_fits here.args.g (sym c.before.before.in-strips.ensures ∙ c.before.if2.true), roles.0, roles.1)
 
 restore-columns-requires-3 : tie.Need-restore-columns-requires-3
 restore-columns-requires-3 c κs = let pre = c.before.before.before.before.before.before.before.requires in (pre.0, rw c.before.before.before.before.plan2.given.1 at pre.1)
@@ -66,8 +66,8 @@ same-length-5 c = search rules
 returns-5 : tie.Need-returns-5
 returns-5 c = rw c.before.before.before.before.before.before.before.plan2.given.1 c.before.before.restore-columns3.ensures
 
-pub restore-known-spec : {M : Type 1} → statement M
-restore-known-spec =
+pub restore_known_spec : {M : Type 1} → statement M
+restore_known_spec =
     tie.close
     (tie.spec
     enum_told

@@ -8,14 +8,14 @@ use Prim.Native.Nat.{ℕ, ◌+◌, ◌*◌, ◌-◌, ◌≤◌, ◌<◌}
 use native.Mathlib.Omega.{arith}
 use lib.ListN.{length}
 use Rattle.chunk.specs.Chunk.{width}
-use Rattle.column.specs.Column.{Column, syndromeP, syndromeQ, reedSolomon}
+use Rattle.column.specs.Column.{Column, syndrome_p, syndrome_q, reed_solomon}
 use Rattle.losses.specs.Losses.{without, solved}
 use Rattle.shape.specs.Layout.{column}
 use Rattle.shape.specs.Columns.{ColumnsMapped}
-use Rattle.shape.proofs.Columns.{columns-none, columns-count, columns-more}
+use Rattle.shape.proofs.Columns.{columns_none, columns_count, columns_more}
 use Rattle.stretch.proofs.Laws.{has_same}
 use Rattle.sums.specs.Strip.{strip}
-use Rattle.sums.proofs.Strips.{strip-length, chunk_of, chunk-seen}
+use Rattle.sums.proofs.Strips.{strip_length, chunk_of, chunk_seen}
 use Rattle.restore.proofs.restore_strip.Statement.{statement}
 use Rattle.restore.proofs.restore_strip.Tie as tie
 
@@ -31,13 +31,13 @@ long c =
     let here = c.before.before.before.before.before in
     let a = here.args in
     let sums = c.strip-survivors.ensures in
-    (strip-length here.requires.0 a.x a.y (syndromeP a.g.n) _ sums.first, strip-length here.requires.0 a.x a.y (syndromeQ reedSolomon a.g.n) _ sums.second)
+    (strip_length here.requires.0 a.x a.y (syndrome_p a.g.n) _ sums.first, strip_length here.requires.0 a.x a.y (syndrome_q reed_solomon a.g.n) _ sums.second)
 
 strip-survivors-requires : tie.Need-strip-survivors-requires invariant-loop decreases-loop
 strip-survivors-requires c κs = search rules
 
 loop-holds : tie.Need-loop-init invariant-loop decreases-loop
-loop-holds c = (omega arith, columns-none)
+loop-holds c = (omega arith, columns_none)
 
 mul-c : tie.Need-overflow-mul-c invariant-loop decreases-loop
 mul-c c = omega arith
@@ -89,8 +89,8 @@ set-solved-requires c κs =
       here.requires.1,
       here.requires.2,
       record {
-        first = λ j h. chunk-seen here.requires.0 k fits a.x a.y (syndromeP n) _ sums.first c.before.before.before.before.load.ensures j h ∙ ap (λ (e : Column). syndromeP n (without a.x a.y e)) (same j h);
-        second = λ j h. chunk-seen here.requires.0 k fits a.x a.y (syndromeQ reedSolomon n) _ sums.second c.before.load2.ensures j h ∙ ap (λ (e : Column). syndromeQ reedSolomon n (without a.x a.y e)) (same j h);
+        first = λ j h. chunk_seen here.requires.0 k fits a.x a.y (syndrome_p n) _ sums.first c.before.before.before.before.load.ensures j h ∙ ap (λ (e : Column). syndrome_p n (without a.x a.y e)) (same j h);
+        second = λ j h. chunk_seen here.requires.0 k fits a.x a.y (syndrome_q reed_solomon n) _ sums.second c.before.load2.ensures j h ∙ ap (λ (e : Column). syndrome_q reed_solomon n (without a.x a.y e)) (same j h);
       },
     )
 
@@ -105,16 +105,16 @@ loop-again c =
     let l = c.before.before.before.before.before.before.before.before.before.before.before.loop in
     let next : width * l.m + width ≡ width * (l.m + 1) = omega arith in
     let fits : width * l.m + width ≤ strip = omega (arith, c.before.before.before.before.before.before.before.before.before.before.loop-test) in
-    (omega (arith, fits), columns-count next (columns-more refl (omega (arith, fits, c.before.before.before.before.before.before.before.before.before.before.before.before.before.before.before.before.before.requires.0.fits)) l.invariant.1 c.before.before.set-solved.ensures))
+    (omega (arith, fits), columns_count next (columns_more refl (omega (arith, fits, c.before.before.before.before.before.before.before.before.before.before.before.before.before.before.before.before.before.requires.0.fits)) l.invariant.1 c.before.before.set-solved.ensures))
 
 same_length : tie.Need-same-length invariant-loop decreases-loop
 same_length c = c.before.loop.invariant.1.kept
 
 returns : tie.Need-returns invariant-loop decreases-loop
-returns c = let l = c.before.loop in columns-count (omega arith) l.invariant.1
+returns c = let l = c.before.loop in columns_count (omega arith) l.invariant.1
 
-pub restore-strip-spec : {M : Type 1} → statement M
-restore-strip-spec =
+pub restore_strip_spec : {M : Type 1} → statement M
+restore_strip_spec =
     tie.close
     (tie.spec
     invariant-loop

@@ -4,8 +4,8 @@ use borrow.Author.Rules.{rules}
 use Prim.Native.Nat.{◌-◌}
 use native.Mathlib.Omega.{arith}
 use Rattle.losses.specs.declared.Plan.TheVariants.{ByBoth}
-use Rattle.shape.proofs.Columns.{shaped-same}
-use Rattle.restore.proofs.Laws.{Begun, begun-none, begun-next, begun_all}
+use Rattle.shape.proofs.Columns.{shaped_same}
+use Rattle.restore.proofs.Laws.{Begun, begun_none, begun_next, begun_all}
 use Rattle.restore.proofs.restore_strips.Statement.{statement}
 use Rattle.restore.proofs.restore_strips.Tie as tie
 
@@ -16,13 +16,13 @@ abbrev decreases-loop : tie.decreases-loop
 decreases-loop g stripe₀ x y rule done₀ stripe done = g.b - done
 
 loop-holds : tie.Need-loop-init invariant-loop decreases-loop
-loop-holds c = begun-none
+loop-holds c = begun_none
 
 next-start-requires : tie.Need-next-start-requires invariant-loop decreases-loop
 next-start-requires c κs = search rules
 
 restore-strip-requires : tie.Need-restore-strip-requires invariant-loop decreases-loop
-restore-strip-requires c κs = let pre = c.before.before.before.before.before.before.requires in (record { shaped = shaped-same pre.0 c.before.before.before.before.loop.invariant.columns.kept; fits = omega (arith, pre.1, c.before.next_start.ensures) }, pre.2, pre.3)
+restore-strip-requires c κs = let pre = c.before.before.before.before.before.before.requires in (record { shaped = shaped_same pre.0 c.before.before.before.before.loop.invariant.columns.kept; fits = omega (arith, pre.1, c.before.next_start.ensures) }, pre.2, pre.3)
 
 add_done : tie.Need-overflow-add-done invariant-loop decreases-loop
 add_done c = let pre = c.before.before.before.before.before.before.before.before.before.requires in omega (arith, pre.1, c.before.before.before.before.next_start.ensures, pre.0.block)
@@ -31,7 +31,7 @@ loop-less : tie.Need-loop-smaller invariant-loop decreases-loop
 loop-less c = omega (arith, c.before.before.before.before.before.before.before.before.before.requires.1, c.before.before.before.before.next_start.ensures)
 
 loop-again : tie.Need-loop-preserved invariant-loop decreases-loop
-loop-again c = begun-next c.before.before.before.before.before.before.before.before.before.requires.1 c.before.before.before.before.next_start.ensures c.before.before.before.before.before.before.before.loop.invariant c.before.before.restore-strip.ensures
+loop-again c = begun_next c.before.before.before.before.before.before.before.before.before.requires.1 c.before.before.before.before.next_start.ensures c.before.before.before.before.before.before.before.loop.invariant c.before.before.restore-strip.ensures
 
 same_length : tie.Need-same-length invariant-loop decreases-loop
 same_length c = c.before.before.loop.invariant.columns.kept
@@ -39,8 +39,8 @@ same_length c = c.before.before.loop.invariant.columns.kept
 returns : tie.Need-returns invariant-loop decreases-loop
 returns c = begun_all c.before.before.before.before.requires.0 (omega arith) c.before.before.loop.invariant
 
-pub restore-strips-spec : {M : Type 1} → statement M
-restore-strips-spec =
+pub restore_strips_spec : {M : Type 1} → statement M
+restore_strips_spec =
     tie.close
     (tie.spec
     invariant-loop

@@ -6,12 +6,12 @@ use mathlib.Core.List.{List}
 use Prim.Native.Nat.{ℕ, ◌+◌}
 use lib.ListN.{get_or}
 use Rattle.chunk.proofs.Laws.{each_at}
-use Rattle.column.specs.Column.{syndromeP, syndromeQ, reedSolomon}
+use Rattle.column.specs.Column.{syndrome_p, syndrome_q, reed_solomon}
 use Rattle.losses.specs.Losses.{without}
-use Rattle.losses.proofs.Without.{solved-carried}
+use Rattle.losses.proofs.Without.{solved_carried}
 use Rattle.shape.specs.Layout.{column}
-use Rattle.shape.proofs.Columns.{columns-as}
-use Rattle.stretch.proofs.Laws.{seen, set-two}
+use Rattle.shape.proofs.Columns.{columns_as}
+use Rattle.stretch.proofs.Laws.{seen, set_two}
 use Rattle.sums.specs.declared.Sums.{Sums}
 use Rattle.restore.proofs.set_carried.Statement.{statement}
 use Rattle.restore.proofs.set_carried.Tie as tie
@@ -34,11 +34,11 @@ returns c =
     let a = here.args in
     let n = a.g.n in
     let h = here.requires.0 in
-    columns-as (set-two h a.s.p c.before.before.before.before.before.before.before.before.add-product.new.0 here.requires.1 here.requires.2 c.before.before.before.before.before.before.set.ensures c.before.before.set2.ensures)
+    columns_as (set_two h a.s.p c.before.before.before.before.before.before.before.before.add-product.new.0 here.requires.1 here.requires.2 c.before.before.before.before.before.before.set.ensures c.before.before.set2.ensures)
     (λ j l.
-    solved-carried n a.x a.y (column a.g a.stripe.now (a.i + j)) (seen h (λ e. syndromeP n (without a.x a.y e)) (ap (λ (r : Sums). r.p) here.requires.3) j l) (seen h (λ e. syndromeQ reedSolomon n (without a.x a.y e)) (ap (λ (r : Sums). r.q) here.requires.3) j l) a.c.0
+    solved_carried n a.x a.y (column a.g a.stripe.now (a.i + j)) (seen h (λ e. syndrome_p n (without a.x a.y e)) (ap (λ (r : Sums). r.p) here.requires.3) j l) (seen h (λ e. syndrome_q reed_solomon n (without a.x a.y e)) (ap (λ (r : Sums). r.q) here.requires.3) j l) a.c.0
     (ap (λ (l : List ℕ). get_or l j 0) c.before.before.before.before.before.before.before.before.add-product.ensures ∙ each_at _ j l))
 
-pub set-carried-spec : {M : Type 1} → statement M
-set-carried-spec =
+pub set_carried_spec : {M : Type 1} → statement M
+set_carried_spec =
     tie.close (tie.spec add-product-requires set-requires set-requires-2 same_length returns)

@@ -2,7 +2,7 @@
 -- Assumes nothing.
 use borrow.Author.Rules.{rules}
 use mathlib.Core.Path.{◌∙◌}
-use Rattle.parts.proofs.Laws.{set-solved}
+use Rattle.parts.proofs.Laws.{set_solved}
 use Rattle.restore.proofs.set_solved.Statement.{statement}
 use Rattle.restore.proofs.set_solved.Tie as tie
 
@@ -23,7 +23,7 @@ returns c =
     let here = c.before.before.before.before.before.before.before.before.before.before.before.before in
     let a = here.args in
     let sums = here.requires.3 in
-    set-solved here.requires.0 a.rule a.p a.q here.requires.1 here.requires.2 sums.first sums.second c.before.before.before.before.before.before.before.before.before.before.solve.ensures c.before.before.before.before.before.before.set.ensures c.before.before.set2.ensures
+    set_solved here.requires.0 a.rule a.p a.q here.requires.1 here.requires.2 sums.first sums.second c.before.before.before.before.before.before.before.before.before.before.solve.ensures c.before.before.before.before.before.before.set.ensures c.before.before.set2.ensures
 
-pub set-solved-spec : {M : Type 1} → statement M
-set-solved-spec = tie.close (tie.spec solve-requires set-requires set-requires-2 same_length returns)
+pub set_solved_spec : {M : Type 1} → statement M
+set_solved_spec = tie.close (tie.spec solve-requires set-requires set-requires-2 same_length returns)

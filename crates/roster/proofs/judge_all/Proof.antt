@@ -10,9 +10,9 @@ use lib.ListN.{get_or, take}
 use lib.ListN.{length as len}
 use lib.Seq.{length-take-le}
 use Rattle.serials.specs.Serials.{serials}
-use Rattle.serials.proofs.Laws.{length-serials, serials-take}
-use Rattle.lines.specs.Faults.{judgedNumber, lineNumber}
-use Rattle.roster.proofs.JudgedTo.{JudgedTo, judged-none, judged-refused, judged-fits, judged-more, judged-all}
+use Rattle.serials.proofs.Laws.{length_serials, serials_take}
+use Rattle.lines.specs.Faults.{judged_number, line_number}
+use Rattle.roster.proofs.JudgedTo.{JudgedTo, judged_none, judged_refused, judged_fits, judged_more, judged_all}
 use Rattle.roster.proofs.judge_all.Statement.{statement}
 use Rattle.roster.proofs.judge_all.Tie as tie
 
@@ -23,7 +23,7 @@ abbrev decreases-loop : tie.decreases-loop
 decreases-loop chars ends length₀ slot₀ length slot = len ends - slot
 
 loop-holds : tie.Need-loop-init invariant-loop decreases-loop
-loop-holds c = judged-none _
+loop-holds c = judged_none _
 
 serial-requires : tie.Need-serial-requires invariant-loop decreases-loop
 serial-requires c κs = search rules
@@ -42,12 +42,12 @@ judged : (c : tie.After-judge invariant-loop decreases-loop)
     → let a = c.before.before.before.before.before.before.before.args in
     let slot = c.before.before.before.before.loop.slot in
     let ss = serials a.chars.now a.ends.now in
-    judgedNumber c.judge.result ≡ lineNumber (take slot ss) (get_or ss slot []) true
+    judged_number c.judge.result ≡ line_number (take slot ss) (get_or ss slot []) true
 judged c =
     let a = c.before.before.before.before.before.before.before.args in
     let slot = c.before.before.before.before.loop.slot in
     c.judge.ensures
-    ∙ ap₂ (λ (before : List (List ℕ)) (serial : List ℕ). lineNumber before serial true) (serials-take a.chars.now 0 a.ends.now slot) c.before.before.serial.ensures
+    ∙ ap₂ (λ (before : List (List ℕ)) (serial : List ℕ). line_number before serial true) (serials_take a.chars.now 0 a.ends.now slot) c.before.before.serial.ensures
 
 enum-known-judged : tie.Need-enum-known-judged invariant-loop decreases-loop
 enum-known-judged c = search rules
@@ -60,8 +60,8 @@ returns c =
     let a = c.before.before.before.before.before.before.before.before.before.before.args in
     let l = c.before.before.before.before.before.before.before.loop in
     sym
-    (judged-refused (serials a.chars.now a.ends.now) l.slot l.length l.invariant (omega (arith, length-serials a.chars.now 0 a.ends.now))
-    c.before.judged.given.0.0 (sym (ap judgedNumber c.before.judged.given.1) ∙ judged c.before.before.before))
+    (judged_refused (serials a.chars.now a.ends.now) l.slot l.length l.invariant (omega (arith, length_serials a.chars.now 0 a.ends.now))
+    c.before.judged.given.0.0 (sym (ap judged_number c.before.judged.given.1) ∙ judged c.before.before.before))
 
 enum_told : tie.Need-enum-told invariant-loop decreases-loop
 enum_told c = search rules
@@ -70,21 +70,21 @@ passed : (c : tie.After-enum-told invariant-loop decreases-loop)
     → let a = c.before.before.before.before.before.before.before.before.before.args in
     let slot = c.before.before.before.before.before.before.loop.slot in
     let ss = serials a.chars.now a.ends.now in
-    0 ≡ lineNumber (take slot ss) (get_or ss slot []) true
-passed c = sym (ap judgedNumber c.enum_told.given.1) ∙ judged c.before.before
+    0 ≡ line_number (take slot ss) (get_or ss slot []) true
+passed c = sym (ap judged_number c.enum_told.given.1) ∙ judged c.before.before
 
-slot-there : (c : tie.After-enum-told invariant-loop decreases-loop)
+slot_there : (c : tie.After-enum-told invariant-loop decreases-loop)
     → let a = c.before.before.before.before.before.before.before.before.before.args in
     c.before.before.before.before.before.before.loop.slot < len (serials a.chars.now a.ends.now)
-slot-there c =
+slot_there c =
     let a = c.before.before.before.before.before.before.before.before.before.args in
-    omega (arith, length-serials a.chars.now 0 a.ends.now)
+    omega (arith, length_serials a.chars.now 0 a.ends.now)
 
 short : (c : tie.After-enum-told invariant-loop decreases-loop) → len c.before.before.before.before.serial.result.now ≤ 20
 short c =
     let a = c.before.before.before.before.before.before.before.before.before.args in
     let l = c.before.before.before.before.before.before.loop in
-    rw c.before.before.before.before.serial.ensures (judged-fits (serials a.chars.now a.ends.now) l.slot l.length l.invariant (slot-there c) (passed c)).1
+    rw c.before.before.before.before.serial.ensures (judged_fits (serials a.chars.now a.ends.now) l.slot l.length l.invariant (slot_there c) (passed c)).1
 
 add-length : tie.Need-overflow-add-length invariant-loop decreases-loop
 add-length c = omega (arith, short c)
@@ -102,15 +102,15 @@ loop-again : tie.Need-loop-preserved invariant-loop decreases-loop
 loop-again c =
     let a = c.before.before.before.before.before.before.before.before.before.args in
     let l = c.before.before.before.before.before.before.loop in
-    rw c.before.before.before.before.serial.ensures (judged-more (serials a.chars.now a.ends.now) l.slot l.length l.invariant (slot-there c) (passed c))
+    rw c.before.before.before.before.serial.ensures (judged_more (serials a.chars.now a.ends.now) l.slot l.length l.invariant (slot_there c) (passed c))
 
 returns-2 : tie.Need-returns-2 invariant-loop decreases-loop
 returns-2 c =
     let a = c.before.before.before.before.args in
-    sym (judged-all c.before.loop.invariant (omega (arith, length-serials a.chars.now 0 a.ends.now)))
+    sym (judged_all c.before.loop.invariant (omega (arith, length_serials a.chars.now 0 a.ends.now)))
 
-pub judge-all-spec : {M : Type 1} → statement M
-judge-all-spec =
+pub judge_all_spec : {M : Type 1} → statement M
+judge_all_spec =
     tie.close
     (tie.spec
     invariant-loop

@@ -9,8 +9,8 @@ use lib.ListN.{length, get_or, drop, length-drop}
 use lib.Seq.{take-length}
 use Rattle.base.proofs.Tails.{tail}
 use Rattle.serials.specs.Serials.{serials}
-use Rattle.serials.proofs.Laws.{length-serials}
-use Rattle.roster.proofs.PutTo.{PutTo, put-none, length-put, put-room, feed-room, put-more, put_all}
+use Rattle.serials.proofs.Laws.{length_serials}
+use Rattle.roster.proofs.PutTo.{PutTo, put_none, length_put, put_room, feed_room, put_more, put_all}
 use Rattle.roster.proofs.put_all.Statement.{statement}
 use Rattle.roster.proofs.put_all.Tie as tie
 
@@ -21,7 +21,7 @@ abbrev decreases-loop : tie.decreases-loop
 decreases-loop chars ends out₀ at₀ slot₀ out at slot = length ends - slot
 
 loop-holds : tie.Need-loop-init invariant-loop decreases-loop
-loop-holds c = (omega arith, put-none _ _)
+loop-holds c = (omega arith, put_none _ _)
 
 serial-requires : tie.Need-serial-requires invariant-loop decreases-loop
 serial-requires c κs = search rules
@@ -30,7 +30,7 @@ there : (c : tie.After-serial invariant-loop decreases-loop)
     → let a = c.before.before.before.before.before.before.args in c.before.before.loop.slot < length (serials a.chars.now a.ends.now)
 there c =
     let a = c.before.before.before.before.before.before.args in
-    omega (arith, length-serials a.chars.now 0 a.ends.now)
+    omega (arith, length_serials a.chars.now 0 a.ends.now)
 
 -- the next line has room
 room : (c : tie.After-serial invariant-loop decreases-loop)
@@ -41,8 +41,8 @@ room c =
     let a = s.args in
     let l = c.before.before.loop in
     let ss = serials a.chars.now a.ends.now in (
-      length-put ss a.out.now l.out l.at l.slot l.invariant.1 s.requires,
-      rw c.serial.ensures (put-room ss a.out.now l.out l.at l.slot l.invariant.1 s.requires (there c)),
+      length_put ss a.out.now l.out l.at l.slot l.invariant.1 s.requires,
+      rw c.serial.ensures (put_room ss a.out.now l.out l.at l.slot l.invariant.1 s.requires (there c)),
     )
 
 sub-copy : tie.Need-overflow-sub-copy invariant-loop decreases-loop
@@ -83,7 +83,7 @@ slice-write-out c =
     let s = c.before.before.before.before.before.before.before.before.before.before in
     let a = s.args in
     let l = c.before.before.before.before.before.before.loop in
-    feed-room (serials a.chars.now a.ends.now) a.out.now l.out l.at l.slot l.invariant.1 s.requires (there c.before.before.before.before) (copied c).0 (copied c).1
+    feed_room (serials a.chars.now a.ends.now) a.out.now l.out l.at l.slot l.invariant.1 s.requires (there c.before.before.before.before) (copied c).0 (copied c).1
 
 add-at-2 : tie.Need-overflow-add-at-2 invariant-loop decreases-loop
 add-at-2 c = omega (arith, room c.before.before.before.before, c.before.before.copy.ensures.0)
@@ -100,23 +100,23 @@ loop-again c =
     let a = s.args in
     let l = c.before.before.before.before.before.before.loop in (
       omega arith,
-      put-more (serials a.chars.now a.ends.now) a.out.now l.out l.at l.slot l.invariant.1 s.requires (there c.before.before.before.before) (copied c).0 (copied c).1,
+      put_more (serials a.chars.now a.ends.now) a.out.now l.out l.at l.slot l.invariant.1 s.requires (there c.before.before.before.before) (copied c).0 (copied c).1,
     )
 
 same_length : tie.Need-same-length invariant-loop decreases-loop
 same_length c =
     let s = c.before.before.before.before.before in
     let l = c.before.loop in
-    length-put (serials s.args.chars.now s.args.ends.now) s.args.out.now l.out l.at l.slot l.invariant.1 s.requires
+    length_put (serials s.args.chars.now s.args.ends.now) s.args.out.now l.out l.at l.slot l.invariant.1 s.requires
 
 returns : tie.Need-returns invariant-loop decreases-loop
 returns c =
     let a = c.before.before.before.before.before.args in
     let l = c.before.loop in
-    put_all (serials a.chars.now a.ends.now) a.out.now l.out l.at l.slot l.invariant.1 (omega (arith, length-serials a.chars.now 0 a.ends.now))
+    put_all (serials a.chars.now a.ends.now) a.out.now l.out l.at l.slot l.invariant.1 (omega (arith, length_serials a.chars.now 0 a.ends.now))
 
-pub put-all-spec : {M : Type 1} → statement M
-put-all-spec =
+pub put_all_spec : {M : Type 1} → statement M
+put_all_spec =
     tie.close
     (tie.spec
     invariant-loop

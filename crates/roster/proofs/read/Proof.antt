@@ -8,9 +8,9 @@ use lib.Dec.{ltb}
 use lib.ListN.{length, take, drop}
 use lib.Seq.{length-take-le}
 use Rattle.serials.specs.Serials.{serials}
-use Rattle.lines.specs.Faults.{judgedNumber, lineNumber}
+use Rattle.lines.specs.Faults.{judged_number, line_number}
 use Rattle.roster.proofs.Calls.{read_left, read_done}
-use Rattle.roster.proofs.ReadTo.{ReadTo, read_none, read-refused, read-room, read_more, read_all}
+use Rattle.roster.proofs.ReadTo.{ReadTo, read_none, read_refused, read_room, read_more, read_all}
 use Rattle.roster.proofs.read.Statement.{statement}
 use Rattle.roster.proofs.read.Tie as tie
 
@@ -52,8 +52,8 @@ judged : (c : tie.After-judge invariant-loop decreases-loop)
     → let a = c.before.before.before.before.before.before.before.before.before.before.args in
     let l = c.before.before.before.before.before.loop in
     let end = c.before.before.before.find.result in
-    judgedNumber c.judge.result
-    ≡ lineNumber (serials a.text.now (take l.slots l.found)) (take (end - l.start) (drop l.start a.text.now)) (ltb end (length a.text.now))
+    judged_number c.judge.result
+    ≡ line_number (serials a.text.now (take l.slots l.found)) (take (end - l.start) (drop l.start a.text.now)) (ltb end (length a.text.now))
 judged c = c.judge.ensures
 
 enum-known-judged : tie.Need-enum-known-judged invariant-loop decreases-loop
@@ -68,8 +68,8 @@ returns c =
     let l = c.before.before.before.before.before.before.before.before.loop in
     let f = c.before.before.before.before.before.before.find in
     let fault = c.before.judged.given.0.0 in
-    read_left fault (read-refused a.text.now l.start f.result (omega arith) f.ensures.0 l.invariant.1 f.ensures.1 fault
-    (sym (ap judgedNumber c.before.judged.given.1) ∙ judged c.before.before.before))
+    read_left fault (read_refused a.text.now l.start f.result (omega arith) f.ensures.0 l.invariant.1 f.ensures.1 fault
+    (sym (ap judged_number c.before.judged.given.1) ∙ judged c.before.before.before))
 
 enum_told : tie.Need-enum-told invariant-loop decreases-loop
 enum_told c = search rules
@@ -79,15 +79,15 @@ passed : (c : tie.After-enum-told invariant-loop decreases-loop)
     → let a = c.before.before.before.before.before.before.before.before.before.before.before.before.args in
     let l = c.before.before.before.before.before.before.before.loop in
     let end = c.before.before.before.before.before.find.result in
-    0 ≡ lineNumber (serials a.text.now (take l.slots l.found)) (take (end - l.start) (drop l.start a.text.now)) (ltb end (length a.text.now))
-passed c = sym (ap judgedNumber c.enum_told.given.1) ∙ judged c.before.before
+    0 ≡ line_number (serials a.text.now (take l.slots l.found)) (take (end - l.start) (drop l.start a.text.now)) (ltb end (length a.text.now))
+passed c = sym (ap judged_number c.enum_told.given.1) ∙ judged c.before.before
 
 low : (c : tie.After-enum-told invariant-loop decreases-loop) → c.before.before.before.before.before.before.before.loop.slots < 257
 low c =
     let a = c.before.before.before.before.before.before.before.before.before.before.before.before.args in
     let l = c.before.before.before.before.before.before.before.loop in
     let f = c.before.before.before.before.before.find in
-    read-room a.text.now l.start f.result (omega arith) f.ensures.0 l.invariant.1 f.ensures.1 (passed c)
+    read_room a.text.now l.start f.result (omega arith) f.ensures.0 l.invariant.1 f.ensures.1 (passed c)
 
 mul-found : tie.Need-overflow-mul-found invariant-loop decreases-loop
 mul-found c = search rules

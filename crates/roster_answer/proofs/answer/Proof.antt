@@ -3,7 +3,7 @@
 use mathlib.Core.Path.{sym}
 use lib.Seq.{length-take-le}
 use borrow.Author.Rules.{rules}
-use Rattle.roster_answer.proofs.Answered.{slots-within, slots-found, fault-told}
+use Rattle.roster_answer.proofs.Answered.{slots_within, slots_found, fault_told}
 use Rattle.roster_answer.proofs.answer.Statement.{statement}
 use Rattle.roster_answer.proofs.answer.Tie as tie
 
@@ -16,13 +16,13 @@ enum-known-slots c = search rules
 array-share-prefix-ends : tie.Need-array-share-prefix-ends
 array-share-prefix-ends c =
     let is = c.before.slots.given in
-    slots-within c.before.before.before.read.ensures is.0.0 is.1
+    slots_within c.before.before.before.read.ensures is.0.0 is.1
 
 slice-aggregate-find : tie.Need-slice-aggregate-find
 slice-aggregate-find c =
     let is = c.before.before.slots.given in
     let read = c.before.before.before.before.read in
-    sym (length-take-le is.0.0 read.new.1.0 (slots-within read.ensures is.0.0 is.1))
+    sym (length-take-le is.0.0 read.new.1.0 (slots_within read.ensures is.0.0 is.1))
 
 find-requires : tie.Need-find-requires
 find-requires c κs = search rules
@@ -41,16 +41,16 @@ returns c =
     let a = c.before.before.before.before.before.before.before.before.before.before.before.args in
     let is = c.before.before.before.before.before.slots.given in
     let read = c.before.before.before.before.before.before.before.read in
-    rw (slots-found read.ensures is.0.0 is.1 a.asked.now, ← c.before.before.find.ensures) c.tell-found.ensures
+    rw (slots_found read.ensures is.0.0 is.1 a.asked.now, ← c.before.before.find.ensures) c.tell-found.ensures
 
 returns-2 : tie.Need-returns-2
 returns-2 c =
     let a = c.before.before.before.before.before.before.before.before.before.args in
     let is = c.before.before.before.fault.given in
-    rw (fault-told c.before.before.before.before.before.read.ensures is.0.0 is.0.1.0 is.1 a.asked.now) c.tell-refused.ensures
+    rw (fault_told c.before.before.before.before.before.read.ensures is.0.0 is.0.1.0 is.1 a.asked.now) c.tell-refused.ensures
 
-pub answer-spec : {M : Type 1} → statement M
-answer-spec =
+pub answer_spec : {M : Type 1} → statement M
+answer_spec =
     tie.close
     (tie.spec
     read-requires

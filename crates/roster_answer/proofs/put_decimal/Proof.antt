@@ -6,7 +6,7 @@ use borrow.Author.Rules.{rules}
 use borrow.Author.Tests.{lt-ltb, le-ltb}
 use lib.ListN.{length-set}
 use Rattle.roster_answer.specs.Words.{decimal}
-use Rattle.roster_answer.proofs.Begins.{begins-stored}
+use Rattle.roster_answer.proofs.Begins.{begins_stored}
 use Rattle.roster_answer.proofs.put_decimal.Statement.{statement}
 use Rattle.roster_answer.proofs.put_decimal.Tie as tie
 
@@ -23,7 +23,7 @@ returns : tie.Need-returns
 unfolding decimal
 returns c =
     let a = c.before.before.before.args in
-    begins-stored (c.last-digit.result ∷ []) a.out.now (rw (lt-ltb a.n 10 (omega arith), c.last-digit.ensures)) (omega arith)
+    begins_stored (c.last-digit.result ∷ []) a.out.now (rw (lt-ltb a.n 10 (omega arith), c.last-digit.ensures)) (omega arith)
 
 last-digit-requires-2 : tie.Need-last-digit-requires-2
 last-digit-requires-2 c κs = search rules
@@ -45,7 +45,7 @@ unfolding decimal
 returns-2 c =
     let a = c.before.before.before.before.before.args in
     let first = c.before.last-digit2 in
-    begins-stored (first.result ∷ c.last-digit3.result ∷ []) a.out.now
+    begins_stored (first.result ∷ c.last-digit3.result ∷ []) a.out.now
     (rw (le-ltb a.n 10 (omega arith), lt-ltb a.n 100 (omega arith), first.ensures, c.last-digit3.ensures)) (omega arith)
 
 last-digit-requires-4 : tie.Need-last-digit-requires-4
@@ -75,11 +75,11 @@ returns-3 c =
     let a = c.before.before.before.before.before.before.args in
     let first = c.before.before.last-digit4 in
     let second = c.before.last-digit5 in
-    begins-stored (first.result ∷ second.result ∷ c.last-digit6.result ∷ []) a.out.now
+    begins_stored (first.result ∷ second.result ∷ c.last-digit6.result ∷ []) a.out.now
     (rw (le-ltb a.n 10 (omega arith), le-ltb a.n 100 (omega arith), first.ensures, second.ensures, c.last-digit6.ensures)) (omega arith)
 
-pub put-decimal-spec : {M : Type 1} → statement M
-put-decimal-spec =
+pub put_decimal_spec : {M : Type 1} → statement M
+put_decimal_spec =
     tie.close
     (tie.spec
     last-digit-requires

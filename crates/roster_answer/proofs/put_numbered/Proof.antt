@@ -2,7 +2,7 @@
 -- Assumes nothing.
 use native.Mathlib.Omega.{arith}
 use borrow.Author.Rules.{rules}
-use Rattle.roster_answer.proofs.Begins.{digits-most, begins-copied, begins-then}
+use Rattle.roster_answer.proofs.Begins.{digits_most, begins_copied, begins_then}
 use Rattle.roster_answer.proofs.put_numbered.Statement.{statement}
 use Rattle.roster_answer.proofs.put_numbered.Tie as tie
 
@@ -24,7 +24,7 @@ put-decimal-requires c κs = search rules
 add-result : tie.Need-overflow-add-result
 add-result c =
     let a = c.before.before.before.before.before.before.before.before.before.before.args in
-    omega (arith, digits-most a.number, c.before.before.put-decimal.ensures.count)
+    omega (arith, digits_most a.number, c.before.before.put-decimal.ensures.count)
 
 same_length : tie.Need-same-length
 same_length c = search rules
@@ -33,10 +33,10 @@ returns : tie.Need-returns
 returns c =
     let a = c.before.before.before.before.before.before.before.before.before.before.args in
     let copy = c.before.before.before.before.before.before.copy in
-    begins-then (begins-copied a.head.now copy.ensures.0 copy.ensures.1) c.before.before.put-decimal.ensures
+    begins_then (begins_copied a.head.now copy.ensures.0 copy.ensures.1) c.before.before.put-decimal.ensures
 
-pub put-numbered-spec : {M : Type 1} → statement M
-put-numbered-spec =
+pub put_numbered_spec : {M : Type 1} → statement M
+put_numbered_spec =
     tie.close
     (tie.spec
     copy-requires

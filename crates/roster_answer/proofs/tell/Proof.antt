@@ -4,7 +4,7 @@ use Prim.Native.Nat.{◌+◌, ◌≤◌}
 use native.Mathlib.Omega.{arith}
 use lib.ListN.{length, length-drop}
 use Rattle.base.proofs.Tails.{tail}
-use Rattle.roster_answer.proofs.Begins.{begins-copied, begins-then, numbered-most}
+use Rattle.roster_answer.proofs.Begins.{begins_copied, begins_then, numbered_most}
 use borrow.Author.Rules.{rules}
 use Rattle.roster_answer.proofs.tell.Statement.{statement}
 use Rattle.roster_answer.proofs.tell.Tie as tie
@@ -16,7 +16,7 @@ put-numbered-requires c κs = search rules
 most : (c : tie.After-slice-known2) → c.before.before.put-numbered.result ≤ length c.before.before.before.before.before.before.before.args.head.now + 3
 most c =
     let a = c.before.before.before.before.before.before.before.args in
-    numbered-most a.head.now a.number c.before.before.put-numbered.ensures
+    numbered_most a.head.now a.number c.before.before.put-numbered.ensures
 
 sub-copy : tie.Need-overflow-sub-copy
 sub-copy c = omega (arith, most c)
@@ -40,10 +40,10 @@ returns : tie.Need-returns
 returns c =
     let a = c.before.before.before.before.before.before.before.before.before.before.before.args in
     let copy = c.before.before.copy in
-    begins-then c.before.before.before.before.before.before.put-numbered.ensures (begins-copied a.tail.now copy.ensures.0 copy.ensures.1)
+    begins_then c.before.before.before.before.before.before.put-numbered.ensures (begins_copied a.tail.now copy.ensures.0 copy.ensures.1)
 
-pub tell-spec : {M : Type 1} → statement M
-tell-spec =
+pub tell_spec : {M : Type 1} → statement M
+tell_spec =
     tie.close
     (tie.spec
     put-numbered-requires

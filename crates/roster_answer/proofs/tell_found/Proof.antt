@@ -2,8 +2,8 @@
 -- Assumes nothing.
 use borrow.Author.Rules.{rules}
 use Rattle.serials.specs.Bytes.{bytes}
-use Rattle.roster_answer.proofs.Begins.{begins-copied}
-use Rattle.roster_answer.proofs.Told.{told-slot, told_none}
+use Rattle.roster_answer.proofs.Begins.{begins_copied}
+use Rattle.roster_answer.proofs.Told.{told_slot, told_none}
 use Rattle.roster_answer.proofs.tell_found.Statement.{statement}
 use Rattle.roster_answer.proofs.tell_found.Tie as tie
 
@@ -34,7 +34,7 @@ same_length c = search rules
 returns : tie.Need-returns
 returns c =
     let is = c.before.before.before.before.before.before.before.found.given in
-    told-slot is.0.0 is.1 c.before.before.tell.ensures
+    told_slot is.0.0 is.1 c.before.before.tell.ensures
 
 same-length-2 : tie.Need-same-length-2
 same-length-2 c = search rules
@@ -42,10 +42,10 @@ same-length-2 c = search rules
 returns-2 : tie.Need-returns-2
 returns-2 c =
     let copy = c.before.before.copy in
-    told_none c.before.before.before.before.before.enum_told.given.1 (begins-copied (bytes "none\n") copy.ensures.0 copy.ensures.1)
+    told_none c.before.before.before.before.before.enum_told.given.1 (begins_copied (bytes "none\n") copy.ensures.0 copy.ensures.1)
 
-pub tell-found-spec : {M : Type 1} → statement M
-tell-found-spec =
+pub tell_found_spec : {M : Type 1} → statement M
+tell_found_spec =
     tie.close
     (tie.spec
     enum-known-found

@@ -3,7 +3,7 @@
 use borrow.Author.Rules.{rules}
 use Rattle.lines.specs.declared.Fault.TheVariants.{BadCharacter, BadLength, NoLineFeed, Repeated, PastLast}
 use Rattle.roster_answer.specs.Words.{decimal}
-use Rattle.roster_answer.proofs.Told.{told-fault}
+use Rattle.roster_answer.proofs.Told.{told_fault}
 use Rattle.roster_answer.proofs.tell_refused.Statement.{statement}
 use Rattle.roster_answer.proofs.tell_refused.Tie as tie
 
@@ -73,7 +73,7 @@ same_length c = search rules
 returns : tie.Need-returns
 unfolding decimal
 returns c =
-    told-fault BadCharacter c.before.before.before.before.before.before.before.before.before.args.line
+    told_fault BadCharacter c.before.before.before.before.before.before.before.before.before.args.line
     c.before.before.before.before.before.before.enum_told.given.1
     c.before.before.tell.ensures
 
@@ -83,7 +83,7 @@ same-length-2 c = search rules
 returns-2 : tie.Need-returns-2
 unfolding decimal
 returns-2 c =
-    told-fault BadLength c.before.before.before.before.before.before.before.before.before.args.line
+    told_fault BadLength c.before.before.before.before.before.before.before.before.before.args.line
     c.before.before.before.before.before.before.enum-told2.given.1
     c.before.before.tell2.ensures
 
@@ -93,7 +93,7 @@ same-length-3 c = search rules
 returns-3 : tie.Need-returns-3
 unfolding decimal
 returns-3 c =
-    told-fault NoLineFeed c.before.before.before.before.before.before.before.before.before.args.line
+    told_fault NoLineFeed c.before.before.before.before.before.before.before.before.before.args.line
     c.before.before.before.before.before.before.enum-told3.given.1
     c.before.before.tell3.ensures
 
@@ -103,7 +103,7 @@ same-length-4 c = search rules
 returns-4 : tie.Need-returns-4
 unfolding decimal
 returns-4 c =
-    told-fault Repeated c.before.before.before.before.before.before.before.before.before.args.line
+    told_fault Repeated c.before.before.before.before.before.before.before.before.before.args.line
     c.before.before.before.before.before.before.enum-told4.given.1
     c.before.before.tell4.ensures
 
@@ -113,12 +113,12 @@ same-length-5 c = search rules
 returns-5 : tie.Need-returns-5
 unfolding decimal
 returns-5 c =
-    told-fault PastLast c.before.before.before.before.before.before.before.before.before.args.line
+    told_fault PastLast c.before.before.before.before.before.before.before.before.before.args.line
     c.before.before.before.before.before.before.enum-told5.given.1
     c.before.before.tell5.ensures
 
-pub tell-refused-spec : {M : Type 1} → statement M
-tell-refused-spec =
+pub tell_refused_spec : {M : Type 1} → statement M
+tell_refused_spec =
     tie.close
     (tie.spec
     enum_told

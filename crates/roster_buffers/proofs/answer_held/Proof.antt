@@ -2,7 +2,7 @@
 -- Assumes nothing.
 use native.Mathlib.Omega.{arith}
 use borrow.Author.Rules.{rules}
-use Rattle.roster_buffers.proofs.Held.{parts-answered}
+use Rattle.roster_buffers.proofs.Held.{parts_answered}
 use Rattle.roster_buffers.proofs.answer_held.Statement.{statement}
 use Rattle.roster_buffers.proofs.answer_held.Tie as tie
 
@@ -16,7 +16,7 @@ answer-requires : tie.Need-answer-requires
 answer-requires c κs = search rules
 
 returns : tie.Need-returns
-returns c = parts-answered (omega arith, omega arith) c.before.before.before.before.part.ensures c.before.before.part2.ensures c.answer.ensures
+returns c = parts_answered (omega arith, omega arith) c.before.before.before.before.part.ensures c.before.before.part2.ensures c.answer.ensures
 
-pub answer-held-spec : {M : Type 1} → statement M
-answer-held-spec = tie.close (tie.spec part-requires part-requires-2 answer-requires returns)
+pub answer_held_spec : {M : Type 1} → statement M
+answer_held_spec = tie.close (tie.spec part-requires part-requires-2 answer-requires returns)

@@ -10,13 +10,13 @@ use native.Mathlib.Omega.{arith}
 use borrow.Author.Rules.{rules}
 use lib.ListN.{length, get_or, take, drop, length-set}
 use lib.Seq.{take-suc, take_all, drop-drop, drop-set-lt}
-use Rattle.roster_buffers.specs.Kept.{heldSize, Holds}
-use Rattle.roster_buffers.proofs.Kept.{holds-taken, holds-left, holds-begins, taken-room}
+use Rattle.roster_buffers.specs.Kept.{held_size, Holds}
+use Rattle.roster_buffers.proofs.Kept.{holds_taken, holds_left, holds_begins, taken_room}
 use Rattle.roster_buffers.proofs.take_all.Statement.{statement}
 use Rattle.roster_buffers.proofs.take_all.Tie as tie
 
 abbrev invariant-loop : tie.invariant-loop
-invariant-loop held₀ count more n₀ i₀ held n i = (i ≤ length more) × (length held ≡ heldSize) × Holds held n (take count held₀ ++ take i more) × (drop n held ≡ drop n held₀)
+invariant-loop held₀ count more n₀ i₀ held n i = (i ≤ length more) × (length held ≡ held_size) × Holds held n (take count held₀ ++ take i more) × (drop n held ≡ drop n held₀)
 
 abbrev decreases-loop : tie.decreases-loop
 decreases-loop held₀ count more n₀ i₀ held n i = length more - i
@@ -33,11 +33,11 @@ shared-slice-read-c c = search rules
 is-taken-requires : tie.Need-is-taken-requires invariant-loop decreases-loop
 is-taken-requires c κs = search rules
 
-room : (c : tie.Then1 invariant-loop decreases-loop) → c.before.before.before.before.loop.n < heldSize
+room : (c : tie.Then1 invariant-loop decreases-loop) → c.before.before.before.before.loop.n < held_size
 room c =
     let a = c.before.before.before.before.before.before.before.before.before.args in
     let l = c.before.before.before.before.loop in
-    taken-room l.n (get_or a.more.now l.i 0) (sym c.before.is-taken.ensures ∙ c.if1.true)
+    taken_room l.n (get_or a.more.now l.i 0) (sym c.before.is-taken.ensures ∙ c.if1.true)
 
 slice-write-held : tie.Need-slice-write-held invariant-loop decreases-loop
 slice-write-held c = omega (arith, room c, c.before.before.before.before.loop.invariant.1)
@@ -64,13 +64,13 @@ loop-again c =
     let is = sym c.before.is-taken.ensures ∙ w.0.taken in (
       omega arith,
       rw w.1 (length-set l.held l.n byte ∙ l.invariant.1),
-      rw (w.1, w.2, next) (holds-taken l.held l.invariant.1 byte l.invariant.2 is (taken-room l.n byte is)),
+      rw (w.1, w.2, next) (holds_taken l.held l.invariant.1 byte l.invariant.2 is (taken_room l.n byte is)),
       rw (w.1, w.2) (drop-set-lt (l.n + 1) l.held l.n byte (omega arith) ∙ sym (drop-drop 1 l.n l.held) ∙ ap (drop 1) l.invariant.3 ∙ drop-drop 1 l.n a.held.now),
     ))
     (λ w. (
       omega arith,
       rw w.1 l.invariant.1,
-      rw (w.1, w.2, next) (holds-left l.held l.invariant.1 byte l.invariant.2 (sym c.before.is-taken.ensures ∙ w.0.left)),
+      rw (w.1, w.2, next) (holds_left l.held l.invariant.1 byte l.invariant.2 (sym c.before.is-taken.ensures ∙ w.0.left)),
       rw (w.1, w.2) l.invariant.3,
     ))
     c.if1.branch
@@ -82,7 +82,7 @@ returns : tie.Need-returns invariant-loop decreases-loop
 returns c =
     let a = c.before.before.before.before.before.before.args in
     let l = c.before.loop in
-    holds-begins (rw (take_all l.i a.more.now (omega arith)) at l.invariant.2) l.invariant.3
+    holds_begins (rw (take_all l.i a.more.now (omega arith)) at l.invariant.2) l.invariant.3
 
 pub take_all_spec : {M : Type 1} → statement M
 take_all_spec =

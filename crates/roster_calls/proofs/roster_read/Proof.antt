@@ -28,7 +28,7 @@ returns-2 c =
     let call = c.before.before.before.before.read.ensures in
     record { answer = rw c.number.ensures (ap read_of (sym c.before.before.fault.given.1) ∙ call.answer); ends = call.ends }
 
-pub roster-read-spec : {M : Type 1} → statement M
-roster-read-spec =
+pub roster_read_spec : {M : Type 1} → statement M
+roster_read_spec =
     tie.close
     (tie.spec read-requires enum-known-slots enum-known-fault number-requires returns returns-2)

@@ -45,8 +45,8 @@ returns-3 c =
     let call = c.before.before.before.before.write.ensures in
     record { answer = ap written_of (sym c.enum_told.given.1) ∙ call.answer; output = call.output }
 
-pub roster-write-spec : {M : Type 1} → statement M
-roster-write-spec =
+pub roster_write_spec : {M : Type 1} → statement M
+roster_write_spec =
     tie.close
     (tie.spec
     write-requires

@@ -56,8 +56,8 @@ loop-again c = search rules
 returns-4 : tie.Need-returns-4 invariant-loop decreases-loop
 returns-4 c = search rules
 
-pub read-roster-spec : {M : Type 1} → statement M
-read-roster-spec =
+pub read_roster_spec : {M : Type 1} → statement M
+read_roster_spec =
     tie.close
     (tie.spec
     invariant-loop

@@ -9,15 +9,15 @@ use borrow.Author.Rules.{rules}
 use native.Mathlib.Numerals.{add-one}
 use lib.ListN.{length, get_or, drop, drop_of_length-le}
 use Rattle.serials.specs.Serials.{serials}
-use Rattle.serials.specs.LookUp.{alike, lookUp, lookUpFrom}
-use Rattle.serials.proofs.Laws.{length-serials}
-use Rattle.serials.proofs.LookUp.{search-on, search-ends}
+use Rattle.serials.specs.LookUp.{alike, look_up, look_up_from}
+use Rattle.serials.proofs.Laws.{length_serials}
+use Rattle.serials.proofs.LookUp.{search_on, search_ends}
 use Rattle.serials.proofs.find.Statement.{statement}
 use Rattle.serials.proofs.find.Tie as tie
 
 abbrev invariant-loop : tie.invariant-loop
 invariant-loop chars ends asked slot₀ slot =
-    (slot ≤ length ends) × (lookUp (serials chars ends) asked ≡ lookUpFrom slot (drop slot (serials chars ends)) asked)
+    (slot ≤ length ends) × (look_up (serials chars ends) asked ≡ look_up_from slot (drop slot (serials chars ends)) asked)
 
 abbrev decreases-loop : tie.decreases-loop
 decreases-loop chars ends asked slot₀ slot = length ends - slot
@@ -46,7 +46,7 @@ returns c =
     let ss = serials a.chars.now a.ends.now in
     sym
     (l.invariant.1
-    ∙ search-ends l.slot ss l.slot a.asked.now (omega (arith, length-serials a.chars.now 0 a.ends.now))
+    ∙ search_ends l.slot ss l.slot a.asked.now (omega (arith, length_serials a.chars.now 0 a.ends.now))
     (compared c.before ∙ c.if1.true))
 
 add-slot : tie.Need-overflow-add-slot invariant-loop decreases-loop
@@ -63,17 +63,17 @@ loop-again c =
       omega arith,
       rw add-one
           (l.invariant.1
-          ∙ search-on l.slot ss l.slot a.asked.now (omega (arith, length-serials a.chars.now 0 a.ends.now))
+          ∙ search_on l.slot ss l.slot a.asked.now (omega (arith, length_serials a.chars.now 0 a.ends.now))
           (compared c.before ∙ c.if1.false)),
     )
 
 returns-2 : tie.Need-returns-2 invariant-loop decreases-loop
-unfolding lookUpFrom
+unfolding look_up_from
 returns-2 c =
     let l = c.before.loop in
     let a = c.before.before.before.before.before.args in
     let ss = serials a.chars.now a.ends.now in
-    sym (l.invariant.1 ∙ rw (drop_of_length-le ss {i = l.slot} (omega (arith, length-serials a.chars.now 0 a.ends.now))) refl)
+    sym (l.invariant.1 ∙ rw (drop_of_length-le ss {i = l.slot} (omega (arith, length_serials a.chars.now 0 a.ends.now))) refl)
 
 pub find_spec : {M : Type 1} → statement M
 find_spec =

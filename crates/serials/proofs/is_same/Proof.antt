@@ -7,7 +7,7 @@ use native.Mathlib.Numerals.{add-one}
 use native.Mathlib.Omega.{arith}
 use lib.ListN.{length, drop, drop_of_length-le}
 use Rattle.serials.specs.LookUp.{alike}
-use Rattle.serials.proofs.LookUp.{other-alike, bytes_same, bytes-differ}
+use Rattle.serials.proofs.LookUp.{other_alike, bytes_same, bytes_differ}
 use Rattle.serials.proofs.is_same.Statement.{statement}
 use Rattle.serials.proofs.is_same.Tie as tie
 
@@ -20,7 +20,7 @@ decreases-loop a b i₀ i = length a - i
 returns : tie.Need-returns invariant-loop decreases-loop
 returns c =
     let a = c.before.args in
-    sym (other-alike a.a.now a.b.now (λ e. c.if1.true (ap length e)))
+    sym (other_alike a.a.now a.b.now (λ e. c.if1.true (ap length e)))
 
 loop-holds : tie.Need-loop-init invariant-loop decreases-loop
 loop-holds c = (omega arith, refl)
@@ -35,7 +35,7 @@ returns-2 : tie.Need-returns-2 invariant-loop decreases-loop
 returns-2 c =
     let l = c.before.before.before.before.loop in
     let a = c.before.before.before.before.before.before.args in
-    sym (l.invariant.1 ∙ bytes-differ a.a.now a.b.now l.i (omega arith) (omega arith) c.if2.true)
+    sym (l.invariant.1 ∙ bytes_differ a.a.now a.b.now l.i (omega arith) (omega arith) c.if2.true)
 
 add-i : tie.Need-overflow-add-i invariant-loop decreases-loop
 add-i c = omega arith
@@ -55,8 +55,8 @@ returns-3 c =
     let a = c.before.before.before.args in
     sym (l.invariant.1 ∙ rw (drop_of_length-le a.a.now {i = l.i} (omega arith), drop_of_length-le a.b.now {i = l.i} (omega arith)))
 
-pub is-same-spec : {M : Type 1} → statement M
-is-same-spec =
+pub is_same_spec : {M : Type 1} → statement M
+is_same_spec =
     tie.close
     (tie.spec
     invariant-loop

@@ -1,7 +1,7 @@
 -- `serials::part` meets its contract: places past the bytes are brought back to them.
 -- Assumes nothing.
 use borrow.Author.Rules.{rules}
-use Rattle.serials.proofs.Laws.{part-clamped}
+use Rattle.serials.proofs.Laws.{part_clamped}
 use Rattle.serials.proofs.part.Statement.{statement}
 use Rattle.serials.proofs.part.Tie as tie
 
@@ -25,7 +25,7 @@ returns c =
     let a = c.before.before.before.before.args in
     let to = c.before.before.least in
     let from = c.before.least2 in
-    part-clamped a.chars.now a.start a.end from.result to.result to.ensures from.ensures
+    part_clamped a.chars.now a.start a.end from.result to.result to.ensures from.ensures
 
-pub part-spec : {M : Type 1} → statement M
-part-spec = tie.close (tie.spec least-requires least-requires-2 sub-result part-result-start part-result-end returns)
+pub part_spec : {M : Type 1} → statement M
+part_spec = tie.close (tie.spec least-requires least-requires-2 sub-result part-result-start part-result-end returns)

@@ -7,7 +7,7 @@ use native.Mathlib.Omega.{arith}
 use borrow.Author.Rules.{rules}
 use lib.ListN.{length, get_or, take, drop, get_or-eq_default}
 use Rattle.serials.specs.Serials.{serials}
-use Rattle.serials.proofs.Laws.{length-serials, first-serial, later-serial, after-clamped}
+use Rattle.serials.proofs.Laws.{length_serials, first_serial, later_serial, after_clamped}
 use Rattle.serials.proofs.serial.Statement.{statement}
 use Rattle.serials.proofs.serial.Tie as tie
 
@@ -17,7 +17,7 @@ part-requires c κs = search rules
 returns : tie.Need-returns
 returns c =
     let a = c.before.before.before.before.args in
-    c.part.ensures ∙ sym (get_or-eq_default (serials a.chars.now a.ends.now) [] (omega (arith, length-serials a.chars.now 0 a.ends.now)))
+    c.part.ensures ∙ sym (get_or-eq_default (serials a.chars.now a.ends.now) [] (omega (arith, length_serials a.chars.now 0 a.ends.now)))
 
 mul-part : tie.Need-overflow-mul-part
 mul-part c = search rules
@@ -31,7 +31,7 @@ part-requires-2 c κs = search rules
 returns-2 : tie.Need-returns-2
 returns-2 c =
     let a = c.before.before.before.before.before.before.args in
-    c.part2.ensures ∙ sym (rw c.before.before.if2.true (first-serial a.chars.now 0 a.ends.now (omega arith)))
+    c.part2.ensures ∙ sym (rw c.before.before.if2.true (first_serial a.chars.now 0 a.ends.now (omega arith)))
 
 sub-least : tie.Need-overflow-sub-least
 sub-least c = search rules
@@ -65,11 +65,11 @@ returns-3 c =
     let begins : c.before.before.least.result + 1 ≡ suc (min (get_or a.ends.now k 0) (length a.chars.now)) = omega (arith, c.before.before.least.ensures) in
     c.part3.ensures
     ∙ ap (λ (start : ℕ). take (get_or a.ends.now a.slot 0 - start) (drop start a.chars.now)) begins
-    ∙ after-clamped a.chars.now (get_or a.ends.now k 0) (get_or a.ends.now a.slot 0)
-    ∙ sym (later-serial a.chars.now 0 a.ends.now next (omega arith))
+    ∙ after_clamped a.chars.now (get_or a.ends.now k 0) (get_or a.ends.now a.slot 0)
+    ∙ sym (later_serial a.chars.now 0 a.ends.now next (omega arith))
 
-pub serial-spec : {M : Type 1} → statement M
-serial-spec =
+pub serial_spec : {M : Type 1} → statement M
+serial_spec =
     tie.close
     (tie.spec
     part-requires

@@ -7,5 +7,5 @@ use Rattle.shape.proofs.library_limits.Tie as tie
 returns : tie.Need-returns
 returns c = refl
 
-pub library-limits-spec : {M : Type 1} → statement M
-library-limits-spec = tie.close (tie.spec returns)
+pub library_limits_spec : {M : Type 1} → statement M
+library_limits_spec = tie.close (tie.spec returns)

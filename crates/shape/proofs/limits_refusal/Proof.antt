@@ -25,6 +25,6 @@ returns-4 c = simp (ne_eqb _ _ c.before.before.before.before.before.before.befor
 returns-5 : tie.Need-returns-5
 returns-5 c = simp (ne_eqb _ _ c.before.before.before.before.before.before.before.before.if1.false, le-ltb _ _ c.before.before.before.before.before.if2.false, ne_eqb _ _ c.before.before.before.if3.false, le-ltb _ _ c.if4.false)
 
-pub limits-refusal-spec : {M : Type 1} → statement M
-limits-refusal-spec =
+pub limits_refusal_spec : {M : Type 1} → statement M
+limits_refusal_spec =
     tie.close (tie.spec returns cast-if2 returns-2 returns-3 cast-if4 returns-4 returns-5)

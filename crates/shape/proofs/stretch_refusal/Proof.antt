@@ -26,5 +26,5 @@ returns-5 c =
     let some = c.before.before.before.before in
     simp (lt-leb _ _ some.before.if1.false, ne_eqb _ _ some.if2.false, le-ltb _ _ c.before.before.if3.false, le-ltb _ _ c.if4.false)
 
-pub stretch-refusal-spec : {M : Type 1} → statement M
-stretch-refusal-spec = tie.close (tie.spec returns returns-2 returns-3 returns-4 returns-5)
+pub stretch_refusal_spec : {M : Type 1} → statement M
+stretch_refusal_spec = tie.close (tie.spec returns returns-2 returns-3 returns-4 returns-5)

@@ -3,7 +3,7 @@
 use mathlib.Core.Path.{sym}
 use borrow.Author.Rules.{rules}
 use lib.Seq.{length-take-le}
-use Rattle.buffers.proofs.Buffers.{input-within}
+use Rattle.buffers.proofs.Buffers.{input_within}
 use Rattle.shelf_job.proofs.main.Statement.{statement}
 use Rattle.shelf_job.proofs.main.Tie as tie
 
@@ -17,12 +17,12 @@ answer-input-requires : tie.Need-answer-input-requires
 answer-input-requires c κs = search rules
 
 array-share-prefix-output : tie.Need-array-share-prefix-output
-array-share-prefix-output c = input-within c.answer-input.ensures
+array-share-prefix-output c = input_within c.answer-input.ensures
 
 slice-aggregate-write-all : tie.Need-slice-aggregate-write-all
 slice-aggregate-write-all c =
     let a = c.before.answer-input in
-    sym (length-take-le a.result a.new.1.1.0 (input-within a.ensures))
+    sym (length-take-le a.result a.new.1.1.0 (input_within a.ensures))
 
 write-all-requires : tie.Need-write-all-requires
 write-all-requires c κs = search rules

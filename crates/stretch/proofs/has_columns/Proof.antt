@@ -21,6 +21,6 @@ returns-3 c = simp (eq-eqb _ _ (sym c.before.before.before.before.before.encode-
 returns-4 : tie.Need-returns-4
 returns-4 c = simp (eq-eqb _ _ (sym c.before.before.before.before.before.encode-refusal.ensures ∙ c.before.before.before.before.if1.false), le-leb _ _ c.before.before.if2.false, le-leb _ _ c.if3.false)
 
-pub has-columns-spec : {M : Type 1} → statement M
-has-columns-spec =
+pub has_columns_spec : {M : Type 1} → statement M
+has_columns_spec =
     tie.close (tie.spec encode-refusal-requires returns returns-2 returns-3 returns-4)

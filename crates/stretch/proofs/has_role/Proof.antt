@@ -21,5 +21,5 @@ returns c = sym (lt-ltb c.before.args.role (c.before.args.n + 2) (omega arith))
 returns-2 : tie.Need-returns-2
 returns-2 c = above c.before.args.n c.before.args.role c.if1.false
 
-pub has-role-spec : {M : Type 1} → statement M
-has-role-spec = tie.close (tie.spec returns returns-2)
+pub has_role_spec : {M : Type 1} → statement M
+has_role_spec = tie.close (tie.spec returns returns-2)

@@ -17,5 +17,5 @@ returns c = rw (sym c.before.before.has-columns.ensures ∙ c.before.if1.true) c
 returns-2 : tie.Need-returns-2
 returns-2 c = rw (sym c.before.has-columns.ensures ∙ c.if1.false) c.if1.false
 
-pub has-stretch-spec : {M : Type 1} → statement M
-has-stretch-spec = tie.close (tie.spec has-columns-requires has-role-requires returns returns-2)
+pub has_stretch_spec : {M : Type 1} → statement M
+has_stretch_spec = tie.close (tie.spec has-columns-requires has-role-requires returns returns-2)

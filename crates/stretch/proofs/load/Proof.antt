@@ -7,7 +7,7 @@ use Prim.Native.Nat.{◌+◌, ◌≤◌, ◌<◌}
 use native.Mathlib.Omega.{arith}
 use lib.ListN.{length}
 use Rattle.stretch.specs.Stretch.{Has}
-use Rattle.stretch.proofs.Laws.{stretch, no-stretch, ends, loaded-there}
+use Rattle.stretch.proofs.Laws.{stretch, no_stretch, ends, loaded_there}
 use Rattle.stretch.proofs.load.Statement.{statement}
 use Rattle.stretch.proofs.load.Tie as tie
 
@@ -21,7 +21,7 @@ has-stretch-requires : tie.Need-has-stretch-requires
 has-stretch-requires c κs = search rules
 
 returns : tie.Need-returns
-returns c = let a = c.before.before.before.args in no-stretch a.g a.stripe.now a.role a.i a.w (sym c.before.has-stretch.ensures ∙ not-true _ c.if1.true)
+returns c = let a = c.before.before.before.args in no_stretch a.g a.stripe.now a.role a.i a.w (sym c.before.has-stretch.ensures ∙ not-true _ c.if1.true)
 
 start-requires : tie.Need-start-requires
 start-requires c κs = search rules
@@ -47,7 +47,7 @@ load-requires c κs = search rules
 returns-2 : tie.Need-returns-2
 returns-2 c =
     let d = c.before.before in
-    c.load.ensures ∙ loaded-there (tested d.before).0 (tested d.before).1 d.start.ensures
+    c.load.ensures ∙ loaded_there (tested d.before).0 (tested d.before).1 d.start.ensures
 
 pub load_spec : {M : Type 1} → statement M
 load_spec =

@@ -1,7 +1,7 @@
 -- `stripe::check` meets its contract: its refusal, then what the comparison finds.
 -- Assumes nothing.
 use borrow.Author.Rules.{rules}
-use Rattle.stripe.proofs.Calls.{check-refused, check_done}
+use Rattle.stripe.proofs.Calls.{check_refused, check_done}
 use Rattle.stripe.proofs.check.Statement.{statement}
 use Rattle.stripe.proofs.check.Tie as tie
 
@@ -11,7 +11,7 @@ check-refusal-requires c κs = search rules
 returns : tie.Need-returns
 returns c =
     let a = c.before.before.before.before.args in
-    check-refused a.g a.stripe.now a.verdicts.now c.before.check-refusal.result c.before.check-refusal.ensures c.if1.true
+    check_refused a.g a.stripe.now a.verdicts.now c.before.check-refusal.result c.before.check-refusal.ensures c.if1.true
 
 compare-requires : tie.Need-compare-requires
 compare-requires c κs = search rules
@@ -24,7 +24,7 @@ returns-2 c =
     let a = c.before.before.before.before.before.before.before.before.args in
     check_done a.g a.stripe.now a.verdicts.now c.before.before.before.before.before.check-refusal.ensures c.before.before.before.before.if1.false c.before.before.compare.ensures
 
-pub check-spec : {M : Type 1} → statement M
-check-spec =
+pub check_spec : {M : Type 1} → statement M
+check_spec =
     tie.close
     (tie.spec check-refusal-requires returns compare-requires same_length returns-2)

@@ -4,8 +4,8 @@ use borrow.Author.Rules.{rules}
 use mathlib.Core.Path.{sym, ap, ◌∙◌}
 use lib.ListN.{length}
 use Rattle.devices.specs.declared.Naming.{Naming}
-use Rattle.devices.specs.Codes.{namedRefusal}
-use Rattle.stripe.specs.Calls.{rebuiltBy}
+use Rattle.devices.specs.Codes.{named_refusal}
+use Rattle.stripe.specs.Calls.{rebuilt_by}
 use Rattle.stripe.proofs.rebuild_named.Statement.{statement}
 use Rattle.stripe.proofs.rebuild_named.Tie as tie
 
@@ -33,18 +33,18 @@ returns c =
     let is = sym c.before.before.before.before.before.before.before.naming-of.ensures ∙ c.before.before.before.before.before.lost.given.1 in
     let call = c.before.before.rebuild.ensures in
     record {
-      result = call.result ∙ sym (ap (namedRefusal a.g (length a.stripe.now)) is);
-      stripe = call.stripe ∙ sym (ap (λ (m : Naming). rebuiltBy a.g m a.stripe.now) is);
+      result = call.result ∙ sym (ap (named_refusal a.g (length a.stripe.now)) is);
+      stripe = call.stripe ∙ sym (ap (λ (m : Naming). rebuilt_by a.g m a.stripe.now) is);
     }
 
 returns-2 : tie.Need-returns-2
 returns-2 c =
     let a = c.before.before.before.before.before.args in
     let is = sym c.before.before.before.naming-of.ensures ∙ c.before.enum_told.given.1 in
-    record { result = c.named-refusal.ensures; stripe = sym (ap (λ (m : Naming). rebuiltBy a.g m a.stripe.now) is) }
+    record { result = c.named-refusal.ensures; stripe = sym (ap (λ (m : Naming). rebuilt_by a.g m a.stripe.now) is) }
 
-pub rebuild-named-spec : {M : Type 1} → statement M
-rebuild-named-spec =
+pub rebuild_named_spec : {M : Type 1} → statement M
+rebuild_named_spec =
     tie.close
     (tie.spec
     naming-of-requires

@@ -2,7 +2,7 @@
 -- Assumes nothing.
 use borrow.Author.Rules.{rules}
 use mathlib.Core.Path.{sym, ◌∙◌}
-use Rattle.stripe.proofs.Repairs.{shape-refuses, summary-refuses, named-rebuilds, none_stays}
+use Rattle.stripe.proofs.Repairs.{shape_refuses, summary_refuses, named_rebuilds, none_stays}
 use Rattle.stripe.proofs.repair.Statement.{statement}
 use Rattle.stripe.proofs.repair.Tie as tie
 
@@ -12,7 +12,7 @@ encode-refusal-requires c κs = search rules
 returns : tie.Need-returns
 returns c =
     let a = c.before.before.before.args in
-    shape-refuses a.g a.stripe.now c.before.encode-refusal.ensures c.if1.true
+    shape_refuses a.g a.stripe.now c.before.encode-refusal.ensures c.if1.true
 
 summary-of-requires : tie.Need-summary-of-requires
 summary-of-requires c κs = search rules
@@ -27,7 +27,7 @@ returns-2 : tie.Need-returns-2
 returns-2 c =
     let b = c.before.before.before.before in
     let a = b.before.before.before.args in
-    summary-refuses a.g a.stripe.now b.before.encode-refusal.ensures b.if1.false c.before.before.summary-of.ensures c.before.summary-refusal.ensures c.if2.true
+    summary_refuses a.g a.stripe.now b.before.encode-refusal.ensures b.if1.false c.before.before.summary-of.ensures c.before.summary-refusal.ensures c.if2.true
 
 faulty-device-requires : tie.Need-faulty-device-requires
 faulty-device-requires c κs = search rules
@@ -50,7 +50,7 @@ returns-3 c =
     let m = f.before in
     let b = m.before.before.before.before in
     let a = b.before.before.before.args in
-    named-rebuilds a.g a.stripe.now b.before.encode-refusal.ensures b.if1.false m.before.before.summary-of.ensures m.before.summary-refusal.ensures m.if2.false (sym f.faulty-device.ensures ∙ c.before.before.before.before.before.device.given.1) c.before.before.rebuild.ensures
+    named_rebuilds a.g a.stripe.now b.before.encode-refusal.ensures b.if1.false m.before.before.summary-of.ensures m.before.summary-refusal.ensures m.if2.false (sym f.faulty-device.ensures ∙ c.before.before.before.before.before.device.given.1) c.before.before.rebuild.ensures
 
 same-length-3 : tie.Need-same-length-3
 same-length-3 c = search rules
@@ -62,8 +62,8 @@ returns-4 c =
     let a = b.before.before.before.args in
     none_stays a.g a.stripe.now b.before.encode-refusal.ensures b.if1.false m.before.before.summary-of.ensures m.before.summary-refusal.ensures m.if2.false (sym c.before.before.faulty-device.ensures ∙ c.enum_told.given.1)
 
-pub repair-spec : {M : Type 1} → statement M
-repair-spec =
+pub repair_spec : {M : Type 1} → statement M
+repair_spec =
     tie.close
     (tie.spec
     encode-refusal-requires

@@ -2,7 +2,7 @@
 -- Assumes nothing.
 use borrow.Author.Rules.{rules}
 use native.Mathlib.Omega.{arith}
-use Rattle.sums.proofs.Horner.{tails-zero}
+use Rattle.sums.proofs.Horner.{tails_zero}
 use Rattle.sums.proofs.add_above.Statement.{statement}
 use Rattle.sums.proofs.add_above.Tie as tie
 
@@ -24,9 +24,9 @@ returns-2 c =
       below = omega arith;
       within = omega arith;
       above = λ k l h. omega arith;
-      sums = λ f agrees zero tails. tails-zero c.before.before.before.before.before.before.before.args.g.n f (omega arith) (c.before.before.add-disks.ensures f agrees tails) zero c.double.ensures;
+      sums = λ f agrees zero tails. tails_zero c.before.before.before.before.before.before.before.args.g.n f (omega arith) (c.before.before.add-disks.ensures f agrees tails) zero c.double.ensures;
     }
 
-pub add-above-spec : {M : Type 1} → statement M
-add-above-spec =
+pub add_above_spec : {M : Type 1} → statement M
+add_above_spec =
     tie.close (tie.spec returns add-add-disks add-disks-requires double-requires returns-2)

@@ -9,7 +9,7 @@ use lib.ListN.{length}
 use Rattle.chunk.specs.Chunk.{width}
 use Rattle.shape.specs.Layout.{start}
 use Rattle.sums.specs.Sums.{DisksAdded}
-use Rattle.sums.proofs.Runs.{placed, inside, below, disk-added}
+use Rattle.sums.proofs.Runs.{placed, inside, below, disk_added}
 use Rattle.sums.proofs.add_disks.Statement.{statement}
 use Rattle.sums.proofs.add_disks.Tie as tie
 
@@ -77,7 +77,7 @@ loop-again c =
       omega arith,
       omega arith,
       at,
-      disk-added a.g a.stripe.now a.i d.result (omega arith) (omega arith) (omega arith) l.invariant.3 at d.ensures
+      disk_added a.g a.stripe.now a.i d.result (omega arith) (omega arith) (omega arith) l.invariant.3 at d.ensures
           (λ j. (elem_Fits w8 w8 d.result d.type-inv.0 j d.type-inv.1.1 tt).fits)
           c.add-disk.ensures.0
           c.add-disk.ensures.1,
@@ -89,8 +89,8 @@ returns c =
     let l = c.before.loop in
     subst (λ (k : ℕ). DisksAdded a.g a.i k a.to a.stripe.now a.p.now a.q.now l.p l.q) (omega arith) l.invariant.3
 
-pub add-disks-spec : {M : Type 1} → statement M
-add-disks-spec =
+pub add_disks_spec : {M : Type 1} → statement M
+add_disks_spec =
     tie.close
     (tie.spec
     invariant-loop

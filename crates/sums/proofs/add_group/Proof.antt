@@ -10,19 +10,19 @@ use Rattle.base.proofs.Choice.{both_true}
 use Rattle.chunk.specs.Chunk.{width}
 use Rattle.column.specs.Column.{Column}
 use Rattle.losses.specs.Losses.{without}
-use Rattle.stretch.specs.Stretch.{columnOf}
+use Rattle.stretch.specs.Stretch.{column_of}
 use Rattle.sums.specs.Sums.{Tails}
 use Rattle.sums.specs.Strip.{outside}
-use Rattle.sums.proofs.Runs.{plain-added, runs-added}
-use Rattle.sums.proofs.Strips.{stage-some, stage-stored}
+use Rattle.sums.proofs.Runs.{plain_added, runs_added}
+use Rattle.sums.proofs.Strips.{stage_some, stage_stored}
 use Rattle.sums.proofs.add_group.Statement.{statement}
 use Rattle.sums.proofs.add_group.Tie as tie
 
 -- the disks of the group
-added : (c : tie.After-add-disks2) → let a = c.before.before.before.before.before.before.before.before.before.before.before.before.before.before.args in let f : ℕ → Column = λ j. without a.x a.y (columnOf a.g a.stripe.now a.i width j) in Tails a.g.n a.to f a.p.now a.q.now → Tails a.g.n a.from f c.add-disks2.new.1.1.1.1.1.0 c.add-disks2.new.1.1.1.1.1.1.0
+added : (c : tie.After-add-disks2) → let a = c.before.before.before.before.before.before.before.before.before.before.before.before.before.before.args in let f : ℕ → Column = λ j. without a.x a.y (column_of a.g a.stripe.now a.i width j) in Tails a.g.n a.to f a.p.now a.q.now → Tails a.g.n a.from f c.add-disks2.new.1.1.1.1.1.0 c.add-disks2.new.1.1.1.1.1.1.0
 added c =
     let s = c.before.before.before.before.before.before.before.before.before.before.before.before.before.before in
-    runs-added s.args.x s.args.y s.requires.0 c.before.before.before.before.before.before.lower.ensures c.before.before.before.before.before.before.before.before.before.before.higher.ensures c.before.before.before.before.before.before.before.add-within.ensures c.before.before.before.add-within2.ensures c.add-disks2.ensures
+    runs_added s.args.x s.args.y s.requires.0 c.before.before.before.before.before.before.lower.ensures c.before.before.before.before.before.before.before.before.before.before.higher.ensures c.before.before.before.before.before.before.before.add-within.ensures c.before.before.before.add-within2.ensures c.add-disks2.ensures
 
 is-plain-requires : tie.Need-is-plain-requires
 is-plain-requires c κs = search rules
@@ -36,7 +36,7 @@ returns c =
     let a = here.args in
     let plain = both_true (outside a.x a.from a.to) _ (sym c.before.before.before.before.is_plain.ensures ∙ c.before.before.before.if1.true) in
     let rest = both_true (outside a.y a.from a.to) (ltb 0 a.from) plain.1 in
-    λ tails. stage-some _ _ (omega (arith, ltb-true 0 a.from rest.1)) (plain-added a.x a.y here.requires.0 plain.0 rest.0 c.add-disks.ensures tails)
+    λ tails. stage_some _ _ (omega (arith, ltb-true 0 a.from rest.1)) (plain_added a.x a.y here.requires.0 plain.0 rest.0 c.add-disks.ensures tails)
 
 higher-requires : tie.Need-higher-requires
 higher-requires c κs = search rules
@@ -69,13 +69,13 @@ add-requires-2 : tie.Need-add-requires-2
 add-requires-2 c κs = search rules
 
 returns-2 : tie.Need-returns-2
-returns-2 c = λ tails. stage-stored _ _ c.before.before.before.before.before.before.before.before.before.if2.true (added c.before.before.before.before.before.before.before.before.before.before tails) c.before.before.before.before.before.before.before.before.load-but.ensures c.before.before.before.load-but2.ensures c.before.before.before.before.before.add.ensures c.add2.ensures
+returns-2 c = λ tails. stage_stored _ _ c.before.before.before.before.before.before.before.before.before.if2.true (added c.before.before.before.before.before.before.before.before.before.before tails) c.before.before.before.before.before.before.before.before.load-but.ensures c.before.before.before.load-but2.ensures c.before.before.before.before.before.add.ensures c.add2.ensures
 
 returns-3 : tie.Need-returns-3
-returns-3 c = λ tails. stage-some _ _ c.if2.false (added c.before tails)
+returns-3 c = λ tails. stage_some _ _ c.if2.false (added c.before tails)
 
-pub add-group-spec : {M : Type 1} → statement M
-add-group-spec =
+pub add_group_spec : {M : Type 1} → statement M
+add_group_spec =
     tie.close
     (tie.spec
     is-plain-requires

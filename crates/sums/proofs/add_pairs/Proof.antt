@@ -9,7 +9,7 @@ use lib.ListN.{length}
 use Rattle.chunk.specs.Chunk.{width}
 use Rattle.shape.specs.Layout.{start}
 use Rattle.sums.specs.Sums.{DisksAdded}
-use Rattle.sums.proofs.Runs.{placed, inside, below, disk-added}
+use Rattle.sums.proofs.Runs.{placed, inside, below, disk_added}
 use Rattle.sums.proofs.add_pairs.Statement.{statement}
 use Rattle.sums.proofs.add_pairs.Tie as tie
 
@@ -97,10 +97,10 @@ loop-again c =
     let d = c.before.before.before.before.before.before.before.load in
     let e = c.before.before.before.before.before.load2 in
     let at = places c.before.before.before.before.before.before.before.before.before in
-    let first = disk-added a.g a.stripe.now a.i d.result (omega arith) (omega arith) (omega arith) l.invariant.2 at.0 d.ensures (λ j. (elem_Fits w8 w8 d.result d.type-inv.0 j d.type-inv.1.1 tt).fits) refl refl in (
+    let first = disk_added a.g a.stripe.now a.i d.result (omega arith) (omega arith) (omega arith) l.invariant.2 at.0 d.ensures (λ j. (elem_Fits w8 w8 d.result d.type-inv.0 j d.type-inv.1.1 tt).fits) refl refl in (
       omega arith,
       at.1,
-      disk-added a.g a.stripe.now a.i e.result (omega arith) (omega arith) (omega arith) first at.1 e.ensures
+      disk_added a.g a.stripe.now a.i e.result (omega arith) (omega arith) (omega arith) first at.1 e.ensures
           (λ j. (elem_Fits w8 w8 e.result e.type-inv.0 j e.type-inv.1.1 tt).fits)
           c.add-two-disks.ensures.0
           c.add-two-disks.ensures.1,
@@ -114,8 +114,8 @@ returns c =
     let l = c.before.before.before.before.loop in
     λ f agrees tails. c.add-disks.ensures f (λ j k h low high. agrees j k h low (omega arith)) (l.invariant.2 f (λ j k h low high. agrees j k h (omega arith) high) tails)
 
-pub add-pairs-spec : {M : Type 1} → statement M
-add-pairs-spec =
+pub add_pairs_spec : {M : Type 1} → statement M
+add_pairs_spec =
     tie.close
     (tie.spec
     invariant-loop

@@ -7,23 +7,23 @@ use native.Mathlib.Omega.{arith}
 use borrow.Author.Tests.{ne_eqb}
 use borrow.Rule.Slice.PartMut.{Post-is}
 use lib.ListN.{length}
-use Rattle.base.proofs.Fill.{Filled, fill_none, fill-all}
-use Rattle.base.proofs.Table.{length-tabulate}
+use Rattle.base.proofs.Fill.{Filled, fill_none, fill_all}
+use Rattle.base.proofs.Table.{length_tabulate}
 use Rattle.chunk.specs.Chunk.{width}
 use Rattle.column.specs.Column.{Column}
 use Rattle.losses.specs.Losses.{without}
-use Rattle.stretch.specs.Stretch.{columnOf}
-use Rattle.sums.specs.Sums.{tailP, tailQ, Tails}
-use Rattle.sums.specs.Strip.{strip, stripColumn, stageP, stageQ}
-use Rattle.sums.proofs.Strips.{chunk-loaded, chunk-stored, chunk_of, chunk-column}
+use Rattle.stretch.specs.Stretch.{column_of}
+use Rattle.sums.specs.Sums.{tail_p, tail_q, Tails}
+use Rattle.sums.specs.Strip.{strip, strip_column, stage_p, stage_q}
+use Rattle.sums.proofs.Strips.{chunk_loaded, chunk_stored, chunk_of, chunk_column}
 use Rattle.sums.proofs.add_to_strip.Statement.{statement}
 use Rattle.sums.proofs.add_to_strip.Tie as tie
 
 abbrev invariant-loop : tie.invariant-loop
 invariant-loop g stripe i x y from to p₀ q₀ m₀ p q m =
     (m ≤ 8)
-    × Filled (λ j v. stageP g.n from (stripColumn g stripe i x y j)) strip p₀ p (width * m)
-    × Filled (λ j v. stageQ g.n from (stripColumn g stripe i x y j)) strip q₀ q (width * m)
+    × Filled (λ j v. stage_p g.n from (strip_column g stripe i x y j)) strip p₀ p (width * m)
+    × Filled (λ j v. stage_q g.n from (strip_column g stripe i x y j)) strip q₀ q (width * m)
 
 abbrev decreases-loop : tie.decreases-loop
 decreases-loop g stripe i x y from to p₀ q₀ m₀ p q m = 8 - m
@@ -31,7 +31,7 @@ decreases-loop g stripe i x y from to p₀ q₀ m₀ p q m = 8 - m
 loop-holds : tie.Need-loop-init invariant-loop decreases-loop
 loop-holds c =
     let stage = c.before.before.before.requires.3 in
-    (omega arith, fill_none (ap length stage.first ∙ length-tabulate strip _), fill_none (ap length stage.second ∙ length-tabulate strip _))
+    (omega arith, fill_none (ap length stage.first ∙ length_tabulate strip _), fill_none (ap length stage.second ∙ length_tabulate strip _))
 
 mul-c : tie.Need-overflow-mul-c invariant-loop decreases-loop
 mul-c c = omega arith
@@ -117,30 +117,30 @@ loop-again c =
     let k = width * l.m in
     let fits : k + width ≤ strip = omega (arith, c.before.before.before.before.before.before.before.before.before.before.before.before.before.before.before.before.before.loop-test) in
     let next : k + width ≡ width * (l.m + 1) = omega arith in
-    let f : ℕ → Column = λ j. without a.x a.y (columnOf a.g a.stripe.now (a.i + k) width j) in
-    let same : (j : ℕ) → j < width → f j ≡ stripColumn a.g a.stripe.now a.i a.x a.y (k + j) = chunk-column here.requires.0 k fits a.x a.y in
+    let f : ℕ → Column = λ j. without a.x a.y (column_of a.g a.stripe.now (a.i + k) width j) in
+    let same : (j : ℕ) → j < width → f j ≡ strip_column a.g a.stripe.now a.i a.x a.y (k + j) = chunk_column here.requires.0 k fits a.x a.y in
     let some = ne_eqb a.to 0 (omega (arith, here.requires.1)) in
     let tails : Tails n a.to f c.before.before.before.before.before.before.before.before.before.before.before.before.before.before.load.result c.before.before.before.before.before.before.before.before.before.before.before.load2.result =
     record {
-      first = chunk-loaded l.invariant.1 fits _ (λ j. tailP n a.to (f j)) here.requires.3.first c.before.before.before.before.before.before.before.before.before.before.before.before.before.before.load.ensures (λ j h. rw some (ap (tailP n a.to) (sym (same j h))));
-      second = chunk-loaded l.invariant.2 fits _ (λ j. tailQ n a.to (f j)) here.requires.3.second c.before.before.before.before.before.before.before.before.before.before.before.load2.ensures (λ j h. rw some (ap (tailQ n a.to) (sym (same j h))));
+      first = chunk_loaded l.invariant.1 fits _ (λ j. tail_p n a.to (f j)) here.requires.3.first c.before.before.before.before.before.before.before.before.before.before.before.before.before.before.load.ensures (λ j h. rw some (ap (tail_p n a.to) (sym (same j h))));
+      second = chunk_loaded l.invariant.2 fits _ (λ j. tail_q n a.to (f j)) here.requires.3.second c.before.before.before.before.before.before.before.before.before.before.before.load2.ensures (λ j h. rw some (ap (tail_q n a.to) (sym (same j h))));
     } in
     let done = c.before.before.before.before.before.before.before.before.add-group.ensures tails in
-    (omega (arith, fits), chunk-stored l.invariant.1 fits (λ j. stageP n a.from (f j)) next done.first (λ j h. ap (stageP n a.from) (same j h)) c.before.before.before.before.before.before.store.ensures (Post-is k (k + width) l.p (omega arith)), chunk-stored l.invariant.2 fits (λ j. stageQ n a.from (f j)) next done.second (λ j h. ap (stageQ n a.from) (same j h)) c.before.before.store2.ensures (Post-is k (k + width) l.q (omega arith)))
+    (omega (arith, fits), chunk_stored l.invariant.1 fits (λ j. stage_p n a.from (f j)) next done.first (λ j h. ap (stage_p n a.from) (same j h)) c.before.before.before.before.before.before.store.ensures (Post-is k (k + width) l.p (omega arith)), chunk_stored l.invariant.2 fits (λ j. stage_q n a.from (f j)) next done.second (λ j h. ap (stage_q n a.from) (same j h)) c.before.before.store2.ensures (Post-is k (k + width) l.q (omega arith)))
 
 same_length : tie.Need-same-length invariant-loop decreases-loop
-same_length c = c.before.loop.invariant.1.long ∙ sym (ap length c.before.before.before.before.before.requires.3.first ∙ length-tabulate strip _)
+same_length c = c.before.loop.invariant.1.long ∙ sym (ap length c.before.before.before.before.before.requires.3.first ∙ length_tabulate strip _)
 
 same-length-2 : tie.Need-same-length-2 invariant-loop decreases-loop
-same-length-2 c = c.before.loop.invariant.2.long ∙ sym (ap length c.before.before.before.before.before.requires.3.second ∙ length-tabulate strip _)
+same-length-2 c = c.before.loop.invariant.2.long ∙ sym (ap length c.before.before.before.before.before.requires.3.second ∙ length_tabulate strip _)
 
 returns : tie.Need-returns invariant-loop decreases-loop
 returns c =
     let l = c.before.loop in
-    record { first = fill-all l.invariant.1 (omega arith); second = fill-all l.invariant.2 (omega arith) }
+    record { first = fill_all l.invariant.1 (omega arith); second = fill_all l.invariant.2 (omega arith) }
 
-pub add-to-strip-spec : {M : Type 1} → statement M
-add-to-strip-spec =
+pub add_to_strip_spec : {M : Type 1} → statement M
+add_to_strip_spec =
     tie.close
     (tie.spec
     invariant-loop

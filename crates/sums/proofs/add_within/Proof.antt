@@ -23,5 +23,5 @@ returns-2 c =
       sums = λ f agrees zero tails. done.sums f (λ j k l from to. agrees j k l (omega arith) (omega arith) to) zero tails;
     }
 
-pub add-within-spec : {M : Type 1} → statement M
-add-within-spec = tie.close (tie.spec returns add-above-requires returns-2)
+pub add_within_spec : {M : Type 1} → statement M
+add_within_spec = tie.close (tie.spec returns add-above-requires returns-2)

@@ -2,7 +2,7 @@
 -- Assumes nothing.
 use borrow.Author.Rules.{rules, elem_Fits}
 use mir.Syntax.{w8}
-use Rattle.sums.proofs.Passes.{chunk-begun, chunk-passed}
+use Rattle.sums.proofs.Passes.{chunk_begun, chunk_passed}
 use Rattle.sums.proofs.begin_chunk.Statement.{statement}
 use Rattle.sums.proofs.begin_chunk.Tie as tie
 
@@ -31,12 +31,12 @@ returns c =
     let first = c.before.before.before.before.before.before.before.before.add-disk.ensures in
     let sums = c.before.before.before.before.add-disks in
     let some = here.requires.1 in
-    chunk-passed sums.new.1.1.1.1.1.0 sums.new.1.1.1.1.1.1.0 some
-    (chunk-begun d.result here.requires.0 some d.ensures (λ j. (elem_Fits w8 w8 d.result d.type-inv.0 j d.type-inv.1.1 tt).fits) first.0 first.1 sums.ensures)
+    chunk_passed sums.new.1.1.1.1.1.0 sums.new.1.1.1.1.1.1.0 some
+    (chunk_begun d.result here.requires.0 some d.ensures (λ j. (elem_Fits w8 w8 d.result d.type-inv.0 j d.type-inv.1.1 tt).fits) first.0 first.1 sums.ensures)
     c.before.before.set-sums.ensures
 
-pub begin-chunk-spec : {M : Type 1} → statement M
-begin-chunk-spec =
+pub begin_chunk_spec : {M : Type 1} → statement M
+begin_chunk_spec =
     tie.close
     (tie.spec
     sub-k

@@ -2,7 +2,7 @@
 -- Assumes nothing.
 use borrow.Author.Rules.{rules}
 use native.Mathlib.Omega.{arith}
-use Rattle.sums.proofs.Passes.{chunk-carried, chunk-passed}
+use Rattle.sums.proofs.Passes.{chunk_carried, chunk_passed}
 use Rattle.sums.proofs.carry_chunk.Statement.{statement}
 use Rattle.sums.proofs.carry_chunk.Tie as tie
 
@@ -28,12 +28,12 @@ returns : tie.Need-returns
 returns c =
     let here = c.before.before.before.before.before.before.before.before.before.before.before.before.before.before in
     let sums = c.before.before.before.before.add-disks in
-    chunk-passed sums.new.1.1.1.1.1.0 sums.new.1.1.1.1.1.1.0 (omega (arith, here.requires))
-    (chunk-carried here.requires.0 here.requires.2 c.before.before.before.before.before.before.before.before.before.before.before.chunk-at.ensures c.before.before.before.before.before.before.before.before.chunk-at2.ensures sums.ensures)
+    chunk_passed sums.new.1.1.1.1.1.0 sums.new.1.1.1.1.1.1.0 (omega (arith, here.requires))
+    (chunk_carried here.requires.0 here.requires.2 c.before.before.before.before.before.before.before.before.before.before.before.chunk-at.ensures c.before.before.before.before.before.before.before.before.chunk-at2.ensures sums.ensures)
     c.before.before.set-sums.ensures
 
-pub carry-chunk-spec : {M : Type 1} → statement M
-carry-chunk-spec =
+pub carry_chunk_spec : {M : Type 1} → statement M
+carry_chunk_spec =
     tie.close
     (tie.spec
     chunk-at-requires

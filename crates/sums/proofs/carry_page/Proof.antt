@@ -6,7 +6,7 @@ use Prim.Native.Nat.{◌*◌, ◌-◌, ◌≤◌}
 use native.Mathlib.Omega.{arith}
 use Rattle.chunk.specs.Chunk.{width}
 use Rattle.sums.specs.Passes.{Passed}
-use Rattle.sums.proofs.Passes.{passed_none, page-chunk, page-next}
+use Rattle.sums.proofs.Passes.{passed_none, page_chunk, page_next}
 use Rattle.sums.proofs.carry_page.Statement.{statement}
 use Rattle.sums.proofs.carry_page.Tie as tie
 
@@ -28,7 +28,7 @@ add-carry-chunk c = let pre = c.before.before.before.before.requires in omega (a
 carry-chunk-requires : tie.Need-carry-chunk-requires invariant-loop decreases-loop
 carry-chunk-requires c κs =
     let pre = c.before.before.before.before.requires in
-    (page-chunk pre.1 c.before.before.loop.invariant.1 pre.0 (omega arith), pre.2, pre.3)
+    (page_chunk pre.1 c.before.before.loop.invariant.1 pre.0 (omega arith), pre.2, pre.3)
 
 add-m : tie.Need-overflow-add-m invariant-loop decreases-loop
 add-m c = omega arith
@@ -37,7 +37,7 @@ loop-less : tie.Need-loop-smaller invariant-loop decreases-loop
 loop-less c = omega arith
 
 loop-again : tie.Need-loop-preserved invariant-loop decreases-loop
-loop-again c = (omega arith, page-next c.before.before.before.before.before.before.before.requires.1 c.before.before.before.before.before.loop.invariant.1 (omega arith) c.before.before.carry-chunk.ensures)
+loop-again c = (omega arith, page_next c.before.before.before.before.before.before.before.requires.1 c.before.before.before.before.before.loop.invariant.1 (omega arith) c.before.before.carry-chunk.ensures)
 
 same_length : tie.Need-same-length invariant-loop decreases-loop
 same_length c = c.before.loop.invariant.1.kept
@@ -48,8 +48,8 @@ returns c =
     let done : l.m ≡ 32 = omega arith in
     rw done at l.invariant.1
 
-pub carry-page-spec : {M : Type 1} → statement M
-carry-page-spec =
+pub carry_page_spec : {M : Type 1} → statement M
+carry_page_spec =
     tie.close
     (tie.spec
     invariant-loop

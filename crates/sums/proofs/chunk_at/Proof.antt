@@ -6,7 +6,7 @@ use Prim.Native.Nat.{◌+◌, ◌≤◌}
 use native.Mathlib.Omega.{arith}
 use lib.ListN.{length}
 use Rattle.chunk.specs.Chunk.{width}
-use Rattle.stretch.proofs.Laws.{ends, loaded-there}
+use Rattle.stretch.proofs.Laws.{ends, loaded_there}
 use Rattle.sums.proofs.chunk_at.Statement.{statement}
 use Rattle.sums.proofs.chunk_at.Tie as tie
 
@@ -37,10 +37,10 @@ load-requires c κs = search rules
 returns : tie.Need-returns
 returns c =
     let d = c.before.before in
-    c.load.ensures ∙ loaded-there d.before.before.requires.0 d.before.before.requires.1 d.start.ensures
+    c.load.ensures ∙ loaded_there d.before.before.requires.0 d.before.before.requires.1 d.start.ensures
 
-pub chunk-at-spec : {M : Type 1} → statement M
-chunk-at-spec =
+pub chunk_at_spec : {M : Type 1} → statement M
+chunk_at_spec =
     tie.close
     (tie.spec
     start-requires

@@ -18,5 +18,5 @@ returns-2 c = simp (eq-eqb _ _ (sym c.before.before.before.encode-refusal.ensure
 returns-3 : tie.Need-returns-3
 returns-3 c = simp (eq-eqb _ _ (sym c.before.before.before.before.encode-refusal.ensures ∙ c.before.before.before.if1.false), le-leb _ _ c.before.if2.false)
 
-pub has-strip-spec : {M : Type 1} → statement M
-has-strip-spec = tie.close (tie.spec encode-refusal-requires returns returns-2 returns-3)
+pub has_strip_spec : {M : Type 1} → statement M
+has_strip_spec = tie.close (tie.spec encode-refusal-requires returns returns-2 returns-3)

@@ -13,5 +13,5 @@ returns c = (omega arith, omega arith, inr refl)
 returns-2 : tie.Need-returns-2
 returns-2 c = (omega arith, omega arith, inl refl)
 
-pub higher-spec : {M : Type 1} → statement M
-higher-spec = tie.close (tie.spec returns returns-2)
+pub higher_spec : {M : Type 1} → statement M
+higher_spec = tie.close (tie.spec returns returns-2)

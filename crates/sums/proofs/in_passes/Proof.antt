@@ -10,5 +10,5 @@ returns c = simp (le-ltb _ _ c.if1.true)
 returns-2 : tie.Need-returns-2
 returns-2 c = simp (lt-ltb _ _ c.before.if1.false)
 
-pub in-passes-spec : {M : Type 1} → statement M
-in-passes-spec = tie.close (tie.spec returns returns-2)
+pub in_passes_spec : {M : Type 1} → statement M
+in_passes_spec = tie.close (tie.spec returns returns-2)

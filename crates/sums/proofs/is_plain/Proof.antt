@@ -21,5 +21,5 @@ returns-2 c = simp (sym c.before.before.before.is-outside.ensures ∙ not-false 
 returns-3 : tie.Need-returns-3
 returns-3 c = simp (sym c.before.before.before.is-outside.ensures ∙ not-false _ c.before.before.if1.false, sym c.before.is-outside2.ensures ∙ not-false _ c.if2.false)
 
-pub is-plain-spec : {M : Type 1} → statement M
-is-plain-spec = tie.close (tie.spec is-outside-requires returns is-outside-requires-2 returns-2 returns-3)
+pub is_plain_spec : {M : Type 1} → statement M
+is_plain_spec = tie.close (tie.spec is-outside-requires returns is-outside-requires-2 returns-2 returns-3)

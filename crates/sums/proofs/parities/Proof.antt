@@ -5,11 +5,11 @@ use mathlib.Core.Path.{sym, ap₂, ◌∙◌}
 use native.Mathlib.Omega.{arith}
 use mir.Syntax.{w8}
 use Rattle.chunk.specs.Chunk.{width}
-use Rattle.stretch.specs.Stretch.{Has, columnOf}
+use Rattle.stretch.specs.Stretch.{Has, column_of}
 use Rattle.stretch.proofs.Laws.{has}
-use Rattle.sums.proofs.Horner.{two, tails-all}
-use Rattle.sums.proofs.Runs.{all-added}
-use Rattle.sums.proofs.Zeros.{no-parities}
+use Rattle.sums.proofs.Horner.{two, tails_all}
+use Rattle.sums.proofs.Runs.{all_added}
+use Rattle.sums.proofs.Zeros.{no_parities}
 use Rattle.sums.proofs.parities.Statement.{statement}
 use Rattle.sums.proofs.parities.Tie as tie
 
@@ -38,14 +38,14 @@ returns c =
     let h = tested c.before.before.before.before.before.before.before.before.before in
     let a = c.before.before.before.before.before.before.before.before.before.before.before.before.args in
     let n = a.g.n in
-    let f = columnOf a.g a.stripe.now a.i width in
-    let sums = tails-all n f (all-added d.result h d.ensures (λ j. (elem_Fits w8 w8 d.result d.type-inv.0 j d.type-inv.1.1 tt).fits) first.0 first.1 c.add-pairs.ensures) in
+    let f = column_of a.g a.stripe.now a.i width in
+    let sums = tails_all n f (all_added d.result h d.ensures (λ j. (elem_Fits w8 w8 d.result d.type-inv.0 j d.type-inv.1.1 tt).fits) first.0 first.1 c.add-pairs.ensures) in
     ap₂ two sums.0 sums.1
 
 returns-2 : tie.Need-returns-2
-returns-2 c = let a = c.before.before.before.args in no-parities a.g a.stripe.now a.i width (sym c.before.has-columns.ensures ∙ c.if1.false) a.g.n
+returns-2 c = let a = c.before.before.before.args in no_parities a.g a.stripe.now a.i width (sym c.before.has-columns.ensures ∙ c.if1.false) a.g.n
 
-pub parities-spec : {M : Type 1} → statement M
-parities-spec =
+pub parities_spec : {M : Type 1} → statement M
+parities_spec =
     tie.close
     (tie.spec has-columns-requires sub-k load-requires add-disk-requires add-pairs-requires returns returns-2)

@@ -7,16 +7,16 @@ use Prim.Native.Nat.{ℕ, ◌≤◌}
 use native.Mathlib.Omega.{arith}
 use mir.Syntax.{w8}
 use Rattle.losses.specs.Losses.{without}
-use Rattle.stretch.specs.Stretch.{Has, columnOf}
+use Rattle.stretch.specs.Stretch.{Has, column_of}
 use Rattle.stretch.proofs.Laws.{has}
 use Rattle.sums.specs.Sums.{Tails}
-use Rattle.sums.proofs.Horner.{tails-none, tails-more, tails-stored}
-use Rattle.sums.proofs.Zeros.{no-sums}
+use Rattle.sums.proofs.Horner.{tails_none, tails_more, tails_stored}
+use Rattle.sums.proofs.Zeros.{no_sums}
 use Rattle.sums.proofs.part_survivors.Statement.{statement}
 use Rattle.sums.proofs.part_survivors.Tie as tie
 
 abbrev invariant-loop : tie.invariant-loop
-invariant-loop g stripe i w x y p₀ q₀ k₀ p q k = (k ≤ g.n) × Tails g.n k (λ j. without x y (columnOf g stripe i w j)) p q
+invariant-loop g stripe i w x y p₀ q₀ k₀ p q k = (k ≤ g.n) × Tails g.n k (λ j. without x y (column_of g stripe i w j)) p q
 
 abbrev decreases-loop : tie.decreases-loop
 decreases-loop g stripe i w x y p₀ q₀ k₀ p q k = k
@@ -28,10 +28,10 @@ has-columns-requires : tie.Need-has-columns-requires invariant-loop decreases-lo
 has-columns-requires c κs = search rules
 
 returns : tie.Need-returns invariant-loop decreases-loop
-returns c = let a = c.before.before.before.args in no-sums a.g a.stripe.now a.i a.w (sym c.before.has-columns.ensures ∙ not-true _ c.if1.true) a.g.n a.x a.y
+returns c = let a = c.before.before.before.args in no_sums a.g a.stripe.now a.i a.w (sym c.before.has-columns.ensures ∙ not-true _ c.if1.true) a.g.n a.x a.y
 
 loop-holds : tie.Need-loop-init invariant-loop decreases-loop
-loop-holds c = (omega arith, tails-none _ _)
+loop-holds c = (omega arith, tails_none _ _)
 
 sub-k : tie.Need-overflow-sub-k invariant-loop decreases-loop
 sub-k c = omega arith
@@ -50,7 +50,7 @@ loop-again c =
     let a = c.before.before.before.before.before.before.before.before.before.before.args in
     let l = c.before.before.before.before.before.before.loop in
     let d = c.before.before.before.before.load-but in
-    (omega arith, tails-more a.g.n (λ j. without a.x a.y (columnOf a.g a.stripe.now a.i a.w j)) d.result (omega arith) l.invariant.0 l.invariant.1 d.ensures (λ j. (elem_Fits w8 w8 d.result d.type-inv.0 j d.type-inv.1.1 tt).fits) c.add-disk.ensures.0 c.add-disk.ensures.1)
+    (omega arith, tails_more a.g.n (λ j. without a.x a.y (column_of a.g a.stripe.now a.i a.w j)) d.result (omega arith) l.invariant.0 l.invariant.1 d.ensures (λ j. (elem_Fits w8 w8 d.result d.type-inv.0 j d.type-inv.1.1 tt).fits) c.add-disk.ensures.0 c.add-disk.ensures.1)
 
 load-but-requires-2 : tie.Need-load-but-requires-2 invariant-loop decreases-loop
 load-but-requires-2 c κs = search rules
@@ -72,10 +72,10 @@ returns-2 c =
     let a = c.before.before.before.before.before.before.before.before.before.before.before.before.before.before.args in
     let l = c.before.before.before.before.before.before.before.before.before.before.loop in
     let none : l.k ≡ 0 = omega arith in
-    tails-stored a.g.n (λ j. without a.x a.y (columnOf a.g a.stripe.now a.i a.w j)) (rw none at l.invariant.1) c.before.before.before.before.before.before.before.before.load-but2.ensures c.before.before.before.load-but3.ensures c.before.before.before.before.before.add.ensures c.add2.ensures
+    tails_stored a.g.n (λ j. without a.x a.y (column_of a.g a.stripe.now a.i a.w j)) (rw none at l.invariant.1) c.before.before.before.before.before.before.before.before.load-but2.ensures c.before.before.before.load-but3.ensures c.before.before.before.before.before.add.ensures c.add2.ensures
 
-pub part-survivors-spec : {M : Type 1} → statement M
-part-survivors-spec =
+pub part_survivors_spec : {M : Type 1} → statement M
+part_survivors_spec =
     tie.close
     (tie.spec
     invariant-loop

@@ -44,8 +44,8 @@ returns c =
     let at = d.start.result + a.i in
     set_there d.before.before.requires.0 d.before.before.requires.1 d.start.ensures a.new c.before.before.store.ensures (Post-is at (at + width) a.stripe.now (omega arith))
 
-pub set-chunk-spec : {M : Type 1} → statement M
-set-chunk-spec =
+pub set_chunk_spec : {M : Type 1} → statement M
+set_chunk_spec =
     tie.close
     (tie.spec
     start-requires

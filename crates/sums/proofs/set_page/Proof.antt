@@ -4,9 +4,9 @@ use borrow.Author.Rules.{rules}
 use mathlib.Core.Path.{◌≡◌, ◌∙◌}
 use Prim.Native.Nat.{◌<◌}
 use native.Mathlib.Omega.{arith}
-use Rattle.shape.proofs.Columns.{shaped-same}
+use Rattle.shape.proofs.Columns.{shaped_same}
 use Rattle.sums.specs.Passes.{page, Passed}
-use Rattle.sums.proofs.Passes.{passed-same, passed_on, passed-all}
+use Rattle.sums.proofs.Passes.{passed_same, passed_on, passed_all}
 use Rattle.sums.proofs.set_page.Statement.{statement}
 use Rattle.sums.proofs.set_page.Tie as tie
 
@@ -23,7 +23,7 @@ begin-page-requires : tie.Need-begin-page-requires invariant-loop decreases-loop
 begin-page-requires c κs = let pre = c.before.before.before.requires in (pre.0, pre.1, c.before.group-below.ensures.1 pre.0.disk)
 
 loop-holds : tie.Need-loop-init invariant-loop decreases-loop
-loop-holds c = (c.before.before.before.before.group-below.ensures.1 c.before.before.before.before.before.before.requires.0.disk, passed-same)
+loop-holds c = (c.before.before.before.before.group-below.ensures.1 c.before.before.before.before.before.before.requires.0.disk, passed_same)
 
 group-below-requires-2 : tie.Need-group-below-requires-2 invariant-loop decreases-loop
 group-below-requires-2 c κs = search rules
@@ -32,7 +32,7 @@ carry-page-requires : tie.Need-carry-page-requires invariant-loop decreases-loop
 carry-page-requires c κs =
     let pre = c.before.before.before.before.before.before.before.before.before.before.requires in
     let l = c.before.before.before.loop in
-    (shaped-same pre.0 (l.invariant.1.kept ∙ c.before.before.before.before.before.before.begin-page.ensures.kept), pre.1, c.before.group-below2.ensures.0, l.invariant.0)
+    (shaped_same pre.0 (l.invariant.1.kept ∙ c.before.before.before.before.before.before.begin-page.ensures.kept), pre.1, c.before.group-below2.ensures.0, l.invariant.0)
 
 loop-less : tie.Need-loop-smaller invariant-loop decreases-loop
 loop-less c = c.before.before.before.before.group-below2.ensures.1 (omega arith)
@@ -49,10 +49,10 @@ returns : tie.Need-returns invariant-loop decreases-loop
 returns c =
     let l = c.before.loop in
     let done : l.to ≡ 0 = omega arith in
-    passed-all c.before.before.before.before.before.before.before.before.requires.0.disk (passed_on c.before.before.before.before.begin-page.ensures (rw done at l.invariant.1))
+    passed_all c.before.before.before.before.before.before.before.before.requires.0.disk (passed_on c.before.before.before.before.begin-page.ensures (rw done at l.invariant.1))
 
-pub set-page-spec : {M : Type 1} → statement M
-set-page-spec =
+pub set_page_spec : {M : Type 1} → statement M
+set_page_spec =
     tie.close
     (tie.spec
     invariant-loop

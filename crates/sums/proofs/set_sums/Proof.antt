@@ -2,7 +2,7 @@
 -- Assumes nothing.
 use borrow.Author.Rules.{rules}
 use native.Mathlib.Omega.{arith}
-use Rattle.stretch.proofs.Laws.{set-two}
+use Rattle.stretch.proofs.Laws.{set_two}
 use Rattle.sums.proofs.set_sums.Statement.{statement}
 use Rattle.sums.proofs.set_sums.Tie as tie
 
@@ -19,8 +19,8 @@ same_length : tie.Need-same-length
 same_length c = search rules
 
 returns : tie.Need-returns
-returns c = let here = c.before.before.before.before.before.before.before.before.before.before in set-two here.requires here.args.p here.args.q (omega arith) (omega arith) c.before.before.before.before.before.before.set-chunk.ensures c.before.before.set-chunk2.ensures
+returns c = let here = c.before.before.before.before.before.before.before.before.before.before in set_two here.requires here.args.p here.args.q (omega arith) (omega arith) c.before.before.before.before.before.before.set-chunk.ensures c.before.before.set-chunk2.ensures
 
-pub set-sums-spec : {M : Type 1} → statement M
-set-sums-spec =
+pub set_sums_spec : {M : Type 1} → statement M
+set_sums_spec =
     tie.close (tie.spec add-set-chunk set-chunk-requires set-chunk-requires-2 same_length returns)

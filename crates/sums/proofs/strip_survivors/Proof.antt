@@ -7,18 +7,18 @@ use mathlib.Core.Bool.{true}
 use Prim.Native.Nat.{◌≤◌}
 use native.Mathlib.Omega.{arith}
 use lib.ListN.{length}
-use Rattle.sums.specs.Strip.{strip, hasStrip, stripColumn, Stage}
-use Rattle.sums.proofs.Strips.{has-strip, stage-none}
+use Rattle.sums.specs.Strip.{strip, has_strip, strip_column, Stage}
+use Rattle.sums.proofs.Strips.{has_strip_lem, stage_none}
 use Rattle.sums.proofs.strip_survivors.Statement.{statement}
 use Rattle.sums.proofs.strip_survivors.Tie as tie
 
 abbrev invariant-loop : tie.invariant-loop
-invariant-loop g stripe i x y p₀ q₀ to₀ p q to = (to ≤ g.n) × Stage strip g.n to (stripColumn g stripe i x y) p q
+invariant-loop g stripe i x y p₀ q₀ to₀ p q to = (to ≤ g.n) × Stage strip g.n to (strip_column g stripe i x y) p q
 
 abbrev decreases-loop : tie.decreases-loop
 decreases-loop g stripe i x y p₀ q₀ to₀ p q to = to
 
-tested : (c : tie.Else1 invariant-loop decreases-loop) → let a = c.before.before.before.args in hasStrip a.g (length a.stripe.now) a.i ≡ true
+tested : (c : tie.Else1 invariant-loop decreases-loop) → let a = c.before.before.before.args in has_strip a.g (length a.stripe.now) a.i ≡ true
 tested c = sym c.before.has-strip.ensures ∙ not-false _ c.if1.false
 
 has-strip-requires : tie.Need-has-strip-requires invariant-loop decreases-loop
@@ -32,7 +32,7 @@ returns c =
 loop-holds : tie.Need-loop-init invariant-loop decreases-loop
 loop-holds c =
     let a = c.before.before.before.before.before.args in
-    (omega arith, stage-none _ _ (has-strip a.g a.stripe.now a.i (tested c.before.before)).shaped.disk)
+    (omega arith, stage_none _ _ (has_strip_lem a.g a.stripe.now a.i (tested c.before.before)).shaped.disk)
 
 group-below-requires : tie.Need-group-below-requires invariant-loop decreases-loop
 group-below-requires c κs = search rules
@@ -41,7 +41,7 @@ add-to-strip-requires : tie.Need-add-to-strip-requires invariant-loop decreases-
 add-to-strip-requires c κs =
     let a = c.before.before.before.before.before.before.before.before.before.before.args in
     let l = c.before.before.before.before.loop in
-    (has-strip a.g a.stripe.now a.i (tested c.before.before.before.before.before.before.before), c.before.before.group-below.ensures.1 (omega arith), l.invariant.0, l.invariant.1)
+    (has_strip_lem a.g a.stripe.now a.i (tested c.before.before.before.before.before.before.before), c.before.before.group-below.ensures.1 (omega arith), l.invariant.0, l.invariant.1)
 
 loop-less : tie.Need-loop-smaller invariant-loop decreases-loop
 loop-less c = c.before.before.before.group-below.ensures.1 (omega arith)
@@ -57,8 +57,8 @@ returns-2 c =
     let sums = rw done at l.invariant.1 in
     record { first = rw has sums.first; second = rw has sums.second }
 
-pub strip-survivors-spec : {M : Type 1} → statement M
-strip-survivors-spec =
+pub strip_survivors_spec : {M : Type 1} → statement M
+strip_survivors_spec =
     tie.close
     (tie.spec
     invariant-loop

@@ -9,21 +9,21 @@ use Prim.Native.Nat.{ℕ, ◌+◌, ◌-◌, ◌≤◌, ◌<◌}
 use native.Mathlib.Numerals.{add-one}
 use native.Mathlib.Omega.{arith}
 use lib.ListN.{get_or}
-use Rattle.base.proofs.Table.{tabulate-same}
+use Rattle.base.proofs.Table.{tabulate_same}
 use Rattle.gf256.specs.Field.{sum}
-use Rattle.gf256.proofs.Laws.{sum-zero}
+use Rattle.gf256.proofs.Laws.{sum_zero}
 use Rattle.chunk.specs.Chunk.{width, each}
 use Rattle.chunk.proofs.Laws.{each_at}
 use Rattle.column.specs.Column.{put, total}
 use Rattle.column.proofs.Put.{put_same, put_other}
-use Rattle.stretch.specs.Stretch.{Has, columnOf}
+use Rattle.stretch.specs.Stretch.{Has, column_of}
 use Rattle.stretch.proofs.Laws.{has, zeros}
-use Rattle.sums.proofs.Zeros.{no-sum}
+use Rattle.sums.proofs.Zeros.{no_sum}
 use Rattle.sums.proofs.sum_without.Statement.{statement}
 use Rattle.sums.proofs.sum_without.Tie as tie
 
 abbrev invariant-loop : tie.invariant-loop
-invariant-loop g stripe i w x p₀ k₀ p k = (k ≤ g.n + 1) × (p ≡ each (λ j. total k (put x 0 (columnOf g stripe i w j))))
+invariant-loop g stripe i w x p₀ k₀ p k = (k ≤ g.n + 1) × (p ≡ each (λ j. total k (put x 0 (column_of g stripe i w j))))
 
 abbrev decreases-loop : tie.decreases-loop
 decreases-loop g stripe i w x p₀ k₀ p k = g.n + 1 - k
@@ -35,7 +35,7 @@ has-columns-requires : tie.Need-has-columns-requires invariant-loop decreases-lo
 has-columns-requires c κs = search rules
 
 returns : tie.Need-returns invariant-loop decreases-loop
-returns c = let a = c.before.before.before.args in no-sum a.g a.stripe.now a.i a.w (sym c.before.has-columns.ensures ∙ not-true _ c.if1.true) a.g.n a.x
+returns c = let a = c.before.before.before.args in no_sum a.g a.stripe.now a.i a.w (sym c.before.has-columns.ensures ∙ not-true _ c.if1.true) a.g.n a.x
 
 loop-holds : tie.Need-loop-init invariant-loop decreases-loop
 unfolding total
@@ -61,33 +61,33 @@ unfolding total
 loop-again c =
     let a = c.before.before.before.before.before.before.before.args in
     let l = c.before.before.before.loop in
-    let e = columnOf a.g a.stripe.now a.i a.w in
+    let e = column_of a.g a.stripe.now a.i a.w in
     let before : (j : ℕ) → j < width → get_or l.p j 0 ≡ total l.k (put a.x 0 (e j)) = λ j h. ap (λ (p : List ℕ). get_or p j 0) l.invariant.1 ∙ each_at _ j h in (
       omega arith,
       ⊎_elim
           (λ w.
           w.5
           ∙ w.4.ensures
-          ∙ tabulate-same width
+          ∙ tabulate_same width
           (λ j h.
           ap₂ sum (before j h) (ap (λ (d : List ℕ). get_or d j 0) w.1.ensures ∙ each_at _ j h ∙ sym (put_other a.x 0 (e j) l.k w.0.taken))))
           (λ w.
           w.1
           ∙ l.invariant.1
-          ∙ tabulate-same width
-          (λ j h. sym (ap (sum (total l.k (put a.x 0 (e j)))) (ap (put a.x 0 (e j)) w.0.left ∙ put_same a.x 0 (e j)) ∙ sum-zero _)))
+          ∙ tabulate_same width
+          (λ j h. sym (ap (sum (total l.k (put a.x 0 (e j)))) (ap (put a.x 0 (e j)) w.0.left ∙ put_same a.x 0 (e j)) ∙ sum_zero _)))
           c.if3.branch
-          ∙ tabulate-same width (λ j h. sym (rw (add-one l.k))),
+          ∙ tabulate_same width (λ j h. sym (rw (add-one l.k))),
     )
 
 returns-2 : tie.Need-returns-2 invariant-loop decreases-loop
 returns-2 c =
     let a = c.before.before.before.before.before.before.args in
     let l = c.before.before.loop in
-    l.invariant.1 ∙ ap (λ (k : ℕ). each (λ j. total k (put a.x 0 (columnOf a.g a.stripe.now a.i a.w j)))) (omega arith)
+    l.invariant.1 ∙ ap (λ (k : ℕ). each (λ j. total k (put a.x 0 (column_of a.g a.stripe.now a.i a.w j)))) (omega arith)
 
-pub sum-without-spec : {M : Type 1} → statement M
-sum-without-spec =
+pub sum_without_spec : {M : Type 1} → statement M
+sum_without_spec =
     tie.close
     (tie.spec
     invariant-loop

@@ -7,9 +7,9 @@ use native.Mathlib.Omega.{arith}
 use Rattle.chunk.specs.Chunk.{width}
 use Rattle.stretch.specs.Stretch.{Has}
 use Rattle.stretch.proofs.Laws.{has}
-use Rattle.sums.proofs.Horner.{tails-none, tails-stored}
-use Rattle.sums.proofs.Runs.{within_all, runs-added}
-use Rattle.sums.proofs.Zeros.{no-sums}
+use Rattle.sums.proofs.Horner.{tails_none, tails_stored}
+use Rattle.sums.proofs.Runs.{within_all, runs_added}
+use Rattle.sums.proofs.Zeros.{no_sums}
 use Rattle.sums.proofs.survivors.Statement.{statement}
 use Rattle.sums.proofs.survivors.Tie as tie
 
@@ -20,7 +20,7 @@ has-columns-requires : tie.Need-has-columns-requires
 has-columns-requires c κs = search rules
 
 returns : tie.Need-returns
-returns c = let a = c.before.before.before.args in no-sums a.g a.stripe.now a.i width (sym c.before.has-columns.ensures ∙ not-true _ c.if1.true) a.g.n a.x a.y
+returns c = let a = c.before.before.before.args in no_sums a.g a.stripe.now a.i width (sym c.before.has-columns.ensures ∙ not-true _ c.if1.true) a.g.n a.x a.y
 
 higher-requires : tie.Need-higher-requires
 higher-requires c κs = search rules
@@ -55,16 +55,16 @@ add-requires-2 c κs = search rules
 returns-2 : tie.Need-returns-2
 returns-2 c =
     let a = c.before.before.before.before.before.before.before.before.before.before.before.before.before.before.before.before.before.before.before.before.before.before.before.args in
-    tails-stored a.g.n _
-    (runs-added a.x a.y (tested c.before.before.before.before.before.before.before.before.before.before.before.before.before.before.before.before.before.before.before.before) c.before.before.before.before.before.before.before.before.before.before.before.before.before.before.before.lower.ensures c.before.before.before.before.before.before.before.before.before.before.before.before.before.before.before.before.before.before.before.higher.ensures (within_all c.before.before.before.before.before.before.before.before.before.before.before.before.before.before.before.before.add-above.ensures) (within_all c.before.before.before.before.before.before.before.before.before.before.before.before.add-above2.ensures) c.before.before.before.before.before.before.before.before.before.add-disks.ensures
-    (tails-none a.g.n _))
+    tails_stored a.g.n _
+    (runs_added a.x a.y (tested c.before.before.before.before.before.before.before.before.before.before.before.before.before.before.before.before.before.before.before.before) c.before.before.before.before.before.before.before.before.before.before.before.before.before.before.before.lower.ensures c.before.before.before.before.before.before.before.before.before.before.before.before.before.before.before.before.before.before.before.higher.ensures (within_all c.before.before.before.before.before.before.before.before.before.before.before.before.before.before.before.before.add-above.ensures) (within_all c.before.before.before.before.before.before.before.before.before.before.before.before.add-above2.ensures) c.before.before.before.before.before.before.before.before.before.add-disks.ensures
+    (tails_none a.g.n _))
     c.before.before.before.before.before.before.before.before.load-but.ensures
     c.before.before.before.load-but2.ensures
     c.before.before.before.before.before.add.ensures
     c.add2.ensures
 
-pub survivors-spec : {M : Type 1} → statement M
-survivors-spec =
+pub survivors_spec : {M : Type 1} → statement M
+survivors_spec =
     tie.close
     (tie.spec
     has-columns-requires

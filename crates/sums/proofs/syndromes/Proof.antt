@@ -5,11 +5,11 @@ use mathlib.Core.Path.{sym, ◌∙◌}
 use native.Mathlib.Omega.{arith}
 use mir.Syntax.{w8}
 use Rattle.chunk.specs.Chunk.{width}
-use Rattle.stretch.specs.Stretch.{Has, columnOf}
+use Rattle.stretch.specs.Stretch.{Has, column_of}
 use Rattle.stretch.proofs.Laws.{has}
-use Rattle.sums.proofs.Horner.{tails-stored}
-use Rattle.sums.proofs.Runs.{all-added}
-use Rattle.sums.proofs.Zeros.{no-syndromes}
+use Rattle.sums.proofs.Horner.{tails_stored}
+use Rattle.sums.proofs.Runs.{all_added}
+use Rattle.sums.proofs.Zeros.{no_syndromes}
 use Rattle.sums.proofs.syndromes.Statement.{statement}
 use Rattle.sums.proofs.syndromes.Tie as tie
 
@@ -51,18 +51,18 @@ returns c =
     let d = c.before.before.before.before.before.before.before.before.before.before.before.before.before.before.before.before.load in
     let first = c.before.before.before.before.before.before.before.before.before.before.before.before.add-disk.ensures in
     let a = c.before.before.before.before.before.before.before.before.before.before.before.before.before.before.before.before.before.before.before.before.before.args in
-    tails-stored a.g.n (columnOf a.g a.stripe.now a.i width)
-    (all-added d.result (tested c.before.before.before.before.before.before.before.before.before.before.before.before.before.before.before.before.before.before) d.ensures (λ j. (elem_Fits w8 w8 d.result d.type-inv.0 j d.type-inv.1.1 tt).fits) first.0 first.1 c.before.before.before.before.before.before.before.before.before.add-pairs.ensures)
+    tails_stored a.g.n (column_of a.g a.stripe.now a.i width)
+    (all_added d.result (tested c.before.before.before.before.before.before.before.before.before.before.before.before.before.before.before.before.before.before) d.ensures (λ j. (elem_Fits w8 w8 d.result d.type-inv.0 j d.type-inv.1.1 tt).fits) first.0 first.1 c.before.before.before.before.before.before.before.before.before.add-pairs.ensures)
     c.before.before.before.before.before.before.before.before.load2.ensures
     c.before.before.before.load3.ensures
     c.before.before.before.before.before.add.ensures
     c.add2.ensures
 
 returns-2 : tie.Need-returns-2
-returns-2 c = let a = c.before.before.before.args in no-syndromes a.g a.stripe.now a.i width (sym c.before.has-columns.ensures ∙ c.if1.false) a.g.n
+returns-2 c = let a = c.before.before.before.args in no_syndromes a.g a.stripe.now a.i width (sym c.before.has-columns.ensures ∙ c.if1.false) a.g.n
 
-pub syndromes-spec : {M : Type 1} → statement M
-syndromes-spec =
+pub syndromes_spec : {M : Type 1} → statement M
+syndromes_spec =
     tie.close
     (tie.spec
     has-columns-requires

@@ -3,8 +3,8 @@
 use mathlib.Core.Path.{◌≡◌, sym, ◌∙◌}
 use mathlib.Core.Bool.{true}
 use borrow.Author.Rules.{rules}
-use Rattle.chunk.specs.Chunk.{allZero}
-use Rattle.verdict.proofs.Common.{told-clean, told-q}
+use Rattle.chunk.specs.Chunk.{all_zero}
+use Rattle.verdict.proofs.Common.{told_clean, told_q}
 use Rattle.verdict.proofs.common_verdict.Statement.{statement}
 use Rattle.verdict.proofs.common_verdict.Tie as tie
 
@@ -35,14 +35,14 @@ module _ (c : tie.After-are-zero2) where
   abbrev clear : tie.Then1
   clear = c.before.before.before
 
-  zeros : let a = clear.before.before.before.before.args in allZero a.t2 a.t2 ≡ true
+  zeros : let a = clear.before.before.before.before.args in all_zero a.t2 a.t2 ≡ true
   zeros = sym clear.before.are-zero.ensures ∙ clear.if1.taken
 
 returns : tie.Need-returns
-returns c _ = told-clean _ _ _ (zeros c.before) (sym c.before.are-zero2.ensures ∙ c.if2.true)
+returns c _ = told_clean _ _ _ (zeros c.before) (sym c.before.are-zero2.ensures ∙ c.if2.true)
 
 returns-2 : tie.Need-returns-2
-returns-2 c _ = told-q _ _ _ (zeros c.before) (sym c.before.are-zero2.ensures ∙ c.if2.false)
+returns-2 c _ = told_q _ _ _ (zeros c.before) (sym c.before.are-zero2.ensures ∙ c.if2.false)
 
 returns-3 : tie.Need-returns-3
 returns-3 c = c.before.verdict-by.ensures
@@ -50,8 +50,8 @@ returns-3 c = c.before.verdict-by.ensures
 returns-4 : tie.Need-returns-4
 returns-4 c = c.verdict-by2.ensures
 
-pub common-verdict-spec : {M : Type 1} → statement M
-common-verdict-spec =
+pub common_verdict_spec : {M : Type 1} → statement M
+common_verdict_spec =
     tie.close
     (tie.spec
     are-zero-requires

@@ -15,5 +15,5 @@ shared-slice-read-t6 c = search rules
 returns-2 : tie.Need-returns-2
 returns-2 c = search rules
 
-pub element-at-spec : {M : Type 1} → statement M
-element-at-spec = tie.close (tie.spec returns shared-slice-read-t6 returns-2)
+pub element_at_spec : {M : Type 1} → statement M
+element_at_spec = tie.close (tie.spec returns shared-slice-read-t6 returns-2)

@@ -21,5 +21,5 @@ returns-4 : tie.Need-returns-4
 returns-4 c =
     simp (ne_eqb _ _ c.before.before.if1.false, ne_eqb _ _ c.before.if2.false, le-ltb _ _ c.if3.false)
 
-pub faulty-device-spec : {M : Type 1} → statement M
-faulty-device-spec = tie.close (tie.spec returns returns-2 returns-3 cast-t6 returns-4)
+pub faulty_device_spec : {M : Type 1} → statement M
+faulty_device_spec = tie.close (tie.spec returns returns-2 returns-3 cast-t6 returns-4)

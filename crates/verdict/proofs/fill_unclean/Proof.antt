@@ -5,9 +5,9 @@ use mathlib.Core.Logic.{⊎_elim}
 use Prim.Native.Nat.{◌-◌, ◌≤◌}
 use native.Mathlib.Omega.{arith}
 use borrow.Author.Tests.{eq-eqb, ne_eqb}
-use Rattle.base.proofs.Fill.{Filled, fill_none, fill_more, fill-all}
+use Rattle.base.proofs.Fill.{Filled, fill_none, fill_more, fill_all}
 use Rattle.chunk.specs.Chunk.{width}
-use Rattle.chunk.proofs.Laws.{or-zero}
+use Rattle.chunk.proofs.Laws.{or_zero}
 use Rattle.verdict.specs.Verdicts.{unclean}
 use Rattle.verdict.proofs.fill_unclean.Statement.{statement}
 use Rattle.verdict.proofs.fill_unclean.Tie as tie
@@ -44,17 +44,17 @@ loop-again c =
     let a = c.before.before.before.before.before.args in
     let l = c.before.before.before.before.loop in
     let value : c.if1.room ≡ unclean a.v a.p.now a.q.now l.j =
-    rw (← or-zero) (⊎_elim (λ w. rw (eq-eqb _ 0 w.0.taken) w.1) (λ w. rw (ne_eqb _ 0 w.0.left) w.1) c.if1.branch) in
+    rw (← or_zero) (⊎_elim (λ w. rw (eq-eqb _ 0 w.0.taken) w.1) (λ w. rw (ne_eqb _ 0 w.0.left) w.1) c.if1.branch) in
     (omega arith, fill_more l.invariant.1 (omega arith) value)
 
 same_length : tie.Need-same-length invariant-loop decreases-loop
 same_length c = c.before.loop.invariant.1.long ∙ sym c.before.before.requires
 
 returns : tie.Need-returns invariant-loop decreases-loop
-returns c = fill-all c.before.loop.invariant.1 (omega arith)
+returns c = fill_all c.before.loop.invariant.1 (omega arith)
 
-pub fill-unclean-spec : {M : Type 1} → statement M
-fill-unclean-spec =
+pub fill_unclean_spec : {M : Type 1} → statement M
+fill_unclean_spec =
     tie.close
     (tie.spec
     invariant-loop

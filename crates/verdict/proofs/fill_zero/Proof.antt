@@ -4,7 +4,7 @@ use mathlib.Core.Path.{refl, sym, ◌∙◌}
 use Prim.Native.Nat.{◌-◌, ◌≤◌}
 use native.Mathlib.Omega.{arith}
 use Rattle.chunk.specs.Chunk.{width}
-use Rattle.base.proofs.Fill.{Filled, fill_none, fill_more, fill-all}
+use Rattle.base.proofs.Fill.{Filled, fill_none, fill_more, fill_all}
 use Rattle.verdict.proofs.fill_zero.Statement.{statement}
 use Rattle.verdict.proofs.fill_zero.Tie as tie
 
@@ -37,10 +37,10 @@ same_length : tie.Need-same-length invariant-loop decreases-loop
 same_length c = c.before.loop.invariant.1.long ∙ sym c.before.before.requires
 
 returns : tie.Need-returns invariant-loop decreases-loop
-returns c = fill-all c.before.loop.invariant.1 (omega arith)
+returns c = fill_all c.before.loop.invariant.1 (omega arith)
 
-pub fill-zero-spec : {M : Type 1} → statement M
-fill-zero-spec =
+pub fill_zero_spec : {M : Type 1} → statement M
+fill_zero_spec =
     tie.close
     (tie.spec
     invariant-loop

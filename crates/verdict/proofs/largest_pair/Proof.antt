@@ -37,7 +37,7 @@ loop-again c = omega arith
 returns : tie.Need-returns invariant-loop decreases-loop
 returns c = search rules
 
-pub largest-pair-spec : {M : Type 1} → statement M
-largest-pair-spec =
+pub largest_pair_spec : {M : Type 1} → statement M
+largest_pair_spec =
     tie.close
     (tie.spec invariant-loop decreases-loop loop-holds element-copy-out-pair element-copy-out-pair-2 pair-requires add-j loop-less loop-again returns)

@@ -4,7 +4,7 @@ use mathlib.Core.Path.{sym, ap, ◌∙◌}
 use native.Mathlib.Omega.{arith}
 use borrow.Author.Rules.{rules}
 use Rattle.gf256.specs.Field.{ExponentOf}
-use Rattle.gf256.proofs.Laws.{exponent-within, exponent-beyond, logarithm-none, logarithm-exponent}
+use Rattle.gf256.proofs.Laws.{exponent_within, exponent_beyond, logarithm_none, logarithm_exponent}
 use Rattle.column.specs.Column.{located}
 use Rattle.verdict.proofs.located.Statement.{statement}
 use Rattle.verdict.proofs.located.Tie as tie
@@ -12,7 +12,7 @@ use Rattle.verdict.proofs.located.Tie as tie
 exponent : (c : tie.After-z) → ExponentOf c.before.before.before.args.ratio.0 c.z.given.0.0
 exponent c =
     let l = c.before.before in
-    logarithm-exponent l.before.args.ratio.0 (omega arith) (sym l.logarithm.ensures ∙ c.z.given.1)
+    logarithm_exponent l.before.args.ratio.0 (omega arith) (sym l.logarithm.ensures ∙ c.z.given.1)
 
 logarithm-requires : tie.Need-logarithm-requires
 logarithm-requires c κs = search rules
@@ -21,7 +21,7 @@ enum-known-z : tie.Need-enum-known-z
 enum-known-z c = search rules
 
 returns : tie.Need-returns
-returns c = sym (ap located (exponent-beyond (exponent c.before.before) c.if1.true))
+returns c = sym (ap located (exponent_beyond (exponent c.before.before) c.if1.true))
 
 add-result : tie.Need-overflow-add-result
 add-result c = omega (arith, (exponent c.before.before).below)
@@ -35,16 +35,16 @@ enum_told c = search rules
 never-requires : tie.Need-never-requires
 never-requires c κs =
     let l = c.before.before in
-    l.before.requires ((logarithm-none l.before.args.ratio.0 (omega arith)).0 (sym l.logarithm.ensures ∙ c.enum_told.given.1))
+    l.before.requires ((logarithm_none l.before.args.ratio.0 (omega arith)).0 (sym l.logarithm.ensures ∙ c.enum_told.given.1))
 
 returns-2 : tie.Need-returns-2
-returns-2 c = sym (ap located (exponent-within (exponent c.before.before) c.if1.false))
+returns-2 c = sym (ap located (exponent_within (exponent c.before.before) c.if1.false))
 
 returns-3 : tie.Need-returns-3
 returns-3 c = search rules
 
-pub located-spec : {M : Type 1} → statement M
-located-spec =
+pub located_spec : {M : Type 1} → statement M
+located_spec =
     tie.close
     (tie.spec
     logarithm-requires

@@ -6,19 +6,19 @@ use Prim.Native.Nat.{◌-◌, ◌≤◌}
 use native.Mathlib.Omega.{arith}
 use borrow.Author.Rules.{rules}
 use lib.ListN.{length}
-use Rattle.verdict.specs.Verdicts.{verdictAt}
-use Rattle.verdict.proofs.Summary.{FilledWithSummary, summary-filled-none, summary-filled-more, summary-filled-all}
+use Rattle.verdict.specs.Verdicts.{verdict_at}
+use Rattle.verdict.proofs.Summary.{FilledWithSummary, summary_filled_none, summary_filled_more, summary_filled_all}
 use Rattle.verdict.proofs.one_by_one.Statement.{statement}
 use Rattle.verdict.proofs.one_by_one.Tie as tie
 
 abbrev invariant-loop : tie.invariant-loop
-invariant-loop n p q room₀ found₀ j₀ room found j = (j ≤ length room₀) × FilledWithSummary (verdictAt n p q) (length room₀) room₀ room j found
+invariant-loop n p q room₀ found₀ j₀ room found j = (j ≤ length room₀) × FilledWithSummary (verdict_at n p q) (length room₀) room₀ room j found
 
 abbrev decreases-loop : tie.decreases-loop
 decreases-loop n p q room₀ found₀ j₀ room found j = length room₀ - j
 
 loop-holds : tie.Need-loop-init invariant-loop decreases-loop
-loop-holds c = (omega arith, summary-filled-none refl)
+loop-holds c = (omega arith, summary_filled_none refl)
 
 element-at-requires : tie.Need-element-at-requires invariant-loop decreases-loop
 element-at-requires c κs = search rules
@@ -48,16 +48,16 @@ loop-again : tie.Need-loop-preserved invariant-loop decreases-loop
 loop-again c =
     let l = c.before.before.before.before.before.loop in
     let verdict = rw (c.before.before.before.element-at.ensures, c.before.before.element-at2.ensures) at c.before.verdict-of.ensures in
-    (omega arith, summary-filled-more l.invariant.1 (omega arith) verdict c.joined.ensures)
+    (omega arith, summary_filled_more l.invariant.1 (omega arith) verdict c.joined.ensures)
 
 same_length : tie.Need-same-length invariant-loop decreases-loop
 same_length c = c.before.loop.invariant.1.filled.long
 
 returns : tie.Need-returns invariant-loop decreases-loop
-returns c = summary-filled-all c.before.loop.invariant.1 (omega arith)
+returns c = summary_filled_all c.before.loop.invariant.1 (omega arith)
 
-pub one-by-one-spec : {M : Type 1} → statement M
-one-by-one-spec =
+pub one_by_one_spec : {M : Type 1} → statement M
+one_by_one_spec =
     tie.close
     (tie.spec
     invariant-loop

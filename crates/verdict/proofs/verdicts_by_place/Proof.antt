@@ -29,8 +29,8 @@ same-length-2 c = search rules
 returns-2 : tie.Need-returns-2
 returns-2 c = search rules
 
-pub verdicts-by-place-spec : {M : Type 1} → statement M
-verdicts-by-place-spec =
+pub verdicts_by_place_spec : {M : Type 1} → statement M
+verdicts_by_place_spec =
     tie.close
     (tie.spec
     common-verdict-requires

@@ -5,11 +5,11 @@ use mathlib.Core.Path.{sym, ◌∙◌}
 use Prim.Native.Nat.{◌+◌, ◌≤◌, ◌<◌}
 use native.Mathlib.Omega.{arith}
 use lib.ListN.{length}
-use Rattle.base.proofs.Refused.{leaves-alone, leaves-done}
+use Rattle.base.proofs.Refused.{leaves_alone, leaves_done}
 use Rattle.shape.specs.Refusals.{WellShaped}
-use Rattle.shape.proofs.Refused.{well-shaped, write-accepted}
-use Rattle.write.specs.Write.{written, afterWrite}
-use Rattle.write.proofs.Written.{stretch-lift}
+use Rattle.shape.proofs.Refused.{well_shaped, write_accepted}
+use Rattle.write.specs.Write.{written, after_write}
+use Rattle.write.proofs.Written.{stretch_lift}
 use Rattle.write.proofs.write.Statement.{statement}
 use Rattle.write.proofs.write.Tie as tie
 
@@ -18,18 +18,18 @@ accepted : (c : tie.Else1)
     → let a = c.before.before.before.before.args in WellShaped a.g a.stripe.now × (a.offset + length a.new.now ≤ a.g.b) × (a.disk < a.g.n)
 accepted c =
     let a = c.before.before.before.before.args in
-    let told = write-accepted a.g (length a.stripe.now) a.disk a.offset (length a.new.now) (sym c.before.write-refusal.ensures ∙ c.if1.false) in
-    (well-shaped a.g a.stripe.now told.0, omega (arith, told.1), told.1)
+    let told = write_accepted a.g (length a.stripe.now) a.disk a.offset (length a.new.now) (sym c.before.write-refusal.ensures ∙ c.if1.false) in
+    (well_shaped a.g a.stripe.now told.0, omega (arith, told.1), told.1)
 
 write-refusal-requires : tie.Need-write-refusal-requires
 write-refusal-requires c κs = search rules
 
 returns : tie.Need-returns
-unfolding afterWrite
+unfolding after_write
 returns c =
     let a = c.before.before.before.before.args in
     let refused = c.before.write-refusal.ensures in
-    record { result = refused; stripe = leaves-alone (written a.g a.disk a.offset a.new.now a.stripe.now) a.stripe.now refused c.if1.true }
+    record { result = refused; stripe = leaves_alone (written a.g a.disk a.offset a.new.now a.stripe.now) a.stripe.now refused c.if1.true }
 
 write-all-requires : tie.Need-write-all-requires
 write-all-requires c κs = accepted c.before
@@ -38,7 +38,7 @@ same_length : tie.Need-same-length
 same_length c = search rules
 
 returns-2 : tie.Need-returns-2
-unfolding afterWrite
+unfolding after_write
 returns-2 c =
     let a = c.before.before.before.before.before.before.before.before.args in
     let ask = accepted c.before.before.before.before in
@@ -47,8 +47,8 @@ returns-2 c =
     record {
       result = sym done ∙ refused;
       stripe =
-          leaves-done (written a.g a.disk a.offset a.new.now a.stripe.now) a.stripe.now refused done
-          (stretch-lift ask.0 ask.1 c.before.before.write-all.ensures);
+          leaves_done (written a.g a.disk a.offset a.new.now a.stripe.now) a.stripe.now refused done
+          (stretch_lift ask.0 ask.1 c.before.before.write-all.ensures);
     }
 
 pub write_spec : {M : Type 1} → statement M

@@ -6,9 +6,9 @@ use mathlib.Core.Path.{sym, subst, ◌∙◌}
 use mathlib.Core.Bool.{true≢false}
 use native.Mathlib.Omega.{arith}
 use Rattle.chunk.specs.Chunk.{width}
-use Rattle.shape.proofs.Columns.{columns-count}
+use Rattle.shape.proofs.Columns.{columns_count}
 use Rattle.stretch.specs.Stretch.{Has}
-use Rattle.stretch.proofs.Laws.{has-true}
+use Rattle.stretch.proofs.Laws.{has_true}
 use Rattle.write.proofs.Written.{written_is}
 use Rattle.write.proofs.write_chunk.Statement.{statement}
 use Rattle.write.proofs.write_chunk.Tie as tie
@@ -22,7 +22,7 @@ has-columns-requires c κs = search rules
 
 -- the columns are there
 returns : tie.Need-returns
-returns c = absurd (true≢false (sym (has-true _ _ _ width (whole c.before.before.before.before)) ∙ sym c.before.has-columns.ensures ∙ not-true _ c.if1.true))
+returns c = absurd (true≢false (sym (has_true _ _ _ width (whole c.before.before.before.before)) ∙ sym c.before.has-columns.ensures ∙ not-true _ c.if1.true))
 
 load-requires : tie.Need-load-requires
 load-requires c κs = search rules
@@ -60,10 +60,10 @@ same_length c = c.before.before.set3.auto.1.0 ∙ c.before.before.before.before.
 returns-2 : tie.Need-returns-2
 returns-2 c =
     let here = c.before.before.before.before.before.before.before.before.before.before.before.before.before.before.before.before.before.before.before.before.before.before.before.before.before.before.before.before in
-    columns-count (sym here.requires.3) (written_is here.args.new.now (whole here) here.requires.1 here.requires.2 c.before.before.before.before.before.before.before.before.before.before.before.before.before.before.before.before.before.before.before.before.before.before.load.ensures c.before.before.before.before.before.before.before.before.before.before.before.before.before.before.before.before.before.before.before.before.load2.ensures c.before.before.before.before.before.before.before.before.before.before.before.before.before.before.before.before.before.load3.ensures c.before.before.before.before.before.before.before.before.before.before.before.before.before.before.before.before.load4.ensures c.before.before.before.before.before.before.before.before.before.before.before.before.before.before.before.changed.ensures c.before.before.before.before.before.before.before.before.before.before.set.ensures c.before.before.before.before.before.before.set2.ensures c.before.before.set3.ensures)
+    columns_count (sym here.requires.3) (written_is here.args.new.now (whole here) here.requires.1 here.requires.2 c.before.before.before.before.before.before.before.before.before.before.before.before.before.before.before.before.before.before.before.before.before.before.load.ensures c.before.before.before.before.before.before.before.before.before.before.before.before.before.before.before.before.before.before.before.before.load2.ensures c.before.before.before.before.before.before.before.before.before.before.before.before.before.before.before.before.before.load3.ensures c.before.before.before.before.before.before.before.before.before.before.before.before.before.before.before.before.load4.ensures c.before.before.before.before.before.before.before.before.before.before.before.before.before.before.before.changed.ensures c.before.before.before.before.before.before.before.before.before.before.set.ensures c.before.before.before.before.before.before.set2.ensures c.before.before.set3.ensures)
 
-pub write-chunk-spec : {M : Type 1} → statement M
-write-chunk-spec =
+pub write_chunk_spec : {M : Type 1} → statement M
+write_chunk_spec =
     tie.close
     (tie.spec
     has-columns-requires

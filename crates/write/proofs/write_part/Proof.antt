@@ -45,8 +45,8 @@ returns c =
     let here = c.before.before.before.before.before.before.before.before.before.before.before.before.before.before.before.before.before.before.before.before.before.before.before.before.before.before in
     written_is here.args.new.now here.requires.0 here.requires.1 here.requires.2 c.before.before.before.before.before.before.before.before.before.before.before.before.before.before.before.before.before.before.before.before.before.before.load.ensures c.before.before.before.before.before.before.before.before.before.before.before.before.before.before.before.before.before.before.before.before.load2.ensures c.before.before.before.before.before.before.before.before.before.before.before.before.before.before.before.before.before.load3.ensures c.before.before.before.before.before.before.before.before.before.before.before.before.before.before.before.before.load4.ensures c.before.before.before.before.before.before.before.before.before.before.before.before.before.before.before.changed.ensures c.before.before.before.before.before.before.before.before.before.before.set.ensures c.before.before.before.before.before.before.set2.ensures c.before.before.set3.ensures
 
-pub write-part-spec : {M : Type 1} → statement M
-write-part-spec =
+pub write_part_spec : {M : Type 1} → statement M
+write_part_spec =
     tie.close
     (tie.spec
     load-requires

@@ -2,7 +2,7 @@
 -- Assumes nothing.
 use native.Mathlib.Omega.{arith}
 use borrow.Author.Rules.{rules}
-use Rattle.gf256.proofs.Product.{double-shift}
+use Rattle.gf256.proofs.Product.{double_shift}
 use Rattle.gf256.proofs.Element.double.Statement.{statement}
 use Rattle.gf256.proofs.Element.double.Tie as tie
 
@@ -13,7 +13,7 @@ mul-t6 : tie.Need-overflow-mul-t6
 mul-t6 c = search rules
 
 returns : tie.Need-returns
-returns c = double-shift c.args.self.0 (omega arith)
+returns c = double_shift c.args.self.0 (omega arith)
 
-pub double-spec : {M : Type 1} → statement M
-double-spec = tie.close (tie.spec mul-t4 mul-t6 returns)
+pub double_spec : {M : Type 1} → statement M
+double_spec = tie.close (tie.spec mul-t4 mul-t6 returns)

@@ -5,7 +5,7 @@ use Prim.Native.Nat.{ℕ}
 use borrow.Author.Rules.{rules}
 use Rattle.gf256.specs.declared.Inverse.TheVariants.{Is as InverseIs}
 use Rattle.gf256.specs.Field.{element, inverse}
-use Rattle.gf256.proofs.Powers.{reciprocal-by-exponent, inverse-is}
+use Rattle.gf256.proofs.Powers.{reciprocal_by_exponent, inverse_is}
 use Rattle.gf256.proofs.Element.inverse.Statement.{statement}
 use Rattle.gf256.proofs.Element.inverse.Tie as tie
 
@@ -25,8 +25,8 @@ power-of-two-requires c κs = search rules
 returns-2 : tie.Need-returns-2
 returns-2 c =
     let other = c.before.before.if1.false in
-    ap (λ (v : ℕ). InverseIs (element v)) (c.power-of-two.ensures ∙ sym (reciprocal-by-exponent c.before.exponent-of.ensures other))
-    ∙ sym (inverse-is c.before.before.before.before.args.self.0 other)
+    ap (λ (v : ℕ). InverseIs (element v)) (c.power-of-two.ensures ∙ sym (reciprocal_by_exponent c.before.exponent-of.ensures other))
+    ∙ sym (inverse_is c.before.before.before.before.args.self.0 other)
 
-pub inverse-spec : {M : Type 1} → statement M
-inverse-spec = tie.close (tie.spec returns exponent-of-requires sub-power-of-two power-of-two-requires returns-2)
+pub inverse_spec : {M : Type 1} → statement M
+inverse_spec = tie.close (tie.spec returns exponent-of-requires sub-power-of-two power-of-two-requires returns-2)

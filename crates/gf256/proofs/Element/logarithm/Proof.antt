@@ -3,18 +3,18 @@
 use mathlib.Core.Path.{sym, ap, ◌∙◌}
 use borrow.Author.Rules.{rules}
 use Rattle.gf256.specs.Field.{logarithm}
-use Rattle.gf256.proofs.Powers.{logarithm-zero, logarithm-is}
+use Rattle.gf256.proofs.Powers.{logarithm_zero, logarithm_is}
 use Rattle.gf256.proofs.Element.logarithm.Statement.{statement}
 use Rattle.gf256.proofs.Element.logarithm.Tie as tie
 
 returns : tie.Need-returns
-returns c = sym (ap logarithm c.if1.true ∙ logarithm-zero)
+returns c = sym (ap logarithm c.if1.true ∙ logarithm_zero)
 
 exponent-of-requires : tie.Need-exponent-of-requires
 exponent-of-requires c κs = search rules
 
 returns-2 : tie.Need-returns-2
-returns-2 c = sym (logarithm-is c.exponent-of.ensures)
+returns-2 c = sym (logarithm_is c.exponent-of.ensures)
 
-pub logarithm-spec : {M : Type 1} → statement M
-logarithm-spec = tie.close (tie.spec returns exponent-of-requires returns-2)
+pub logarithm_spec : {M : Type 1} → statement M
+logarithm_spec = tie.close (tie.spec returns exponent-of-requires returns-2)

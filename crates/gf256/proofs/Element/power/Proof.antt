@@ -7,7 +7,7 @@ use native.Mathlib.Omega.{arith}
 use borrow.Author.Rules.{rules}
 use lib.Dec.{lit<}
 use Rattle.gf256.specs.Field.{power}
-use Rattle.gf256.proofs.Powers.{power_zero, power-by-exponent}
+use Rattle.gf256.proofs.Powers.{power_zero, power_by_exponent}
 use Rattle.gf256.proofs.Element.power.Statement.{statement}
 use Rattle.gf256.proofs.Element.power.Tie as tie
 
@@ -32,7 +32,7 @@ power-of-two-requires c κs = search rules
 
 returns-3 : tie.Need-returns-3
 returns-3 c =
-    c.power-of-two.ensures ∙ sym (power-by-exponent c.before.exponent-of.ensures c.before.before.before.before.before.args.exponent)
+    c.power-of-two.ensures ∙ sym (power_by_exponent c.before.exponent-of.ensures c.before.before.before.before.before.args.exponent)
 
-pub power-spec : {M : Type 1} → statement M
-power-spec = tie.close (tie.spec returns returns-2 exponent-of-requires mul-power-of-two power-of-two-requires returns-3)
+pub power_spec : {M : Type 1} → statement M
+power_spec = tie.close (tie.spec returns returns-2 exponent-of-requires mul-power-of-two power-of-two-requires returns-3)

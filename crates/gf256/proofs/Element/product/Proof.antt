@@ -10,5 +10,5 @@ split-product-requires c κs = search rules
 returns : tie.Need-returns
 returns c = c.split-product.ensures
 
-pub product-spec : {M : Type 1} → statement M
-product-spec = tie.close (tie.spec split-product-requires returns)
+pub product_spec : {M : Type 1} → statement M
+product_spec = tie.close (tie.spec split-product-requires returns)

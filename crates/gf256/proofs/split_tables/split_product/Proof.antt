@@ -6,15 +6,15 @@ use native.Mathlib.Omega.{arith}
 use borrow.Author.Rules.{rules}
 use Rattle.gf256.specs.declared.split_tables.Rows.{Rows}
 use Rattle.gf256.specs.Field.{sum, entry_of}
-use Rattle.gf256.proofs.Arms.{NoneBelow, by-arms, ◌▹◌, last}
-use Rattle.gf256.proofs.SplitTables.{splitRows, rows_of, low, high, product-by-entries}
+use Rattle.gf256.proofs.Arms.{NoneBelow, by_arms, ◌▹◌, last}
+use Rattle.gf256.proofs.SplitTables.{split_rows, rows_of, low, high, product_by_entries}
 use Rattle.gf256.proofs.split_tables.split_product.Statement.{statement}
 use Rattle.gf256.proofs.split_tables.split_product.Tie as tie
 
 rows_are : (c : tie.At-match-branch) → c.match.rows ≡ rows_of c.before.args.multiplier
-unfolding NoneBelow rows_of splitRows
+unfolding NoneBelow rows_of split_rows
 rows_are c =
-    by-arms rows_of c.before.args.multiplier c.match.rows c.match.branch
+    by_arms rows_of c.before.args.multiplier c.match.rows c.match.branch
     ((λ h. h.keys1) ▹ (λ h. h.keys2) ▹ (λ h. h.keys3) ▹ (λ h. h.keys4) ▹ (λ h. h.keys5) ▹ (λ h. h.keys6) ▹ (λ h. h.keys7) ▹
     (λ h. h.keys8) ▹ (λ h. h.keys9) ▹ (λ h. h.keys10) ▹ (λ h. h.keys11) ▹ (λ h. h.keys12) ▹ (λ h. h.keys13) ▹ (λ h. h.keys14) ▹
     (λ h. h.keys15) ▹ (λ h. h.keys16) ▹ (λ h. h.keys17) ▹ (λ h. h.keys18) ▹ (λ h. h.keys19) ▹ (λ h. h.keys20) ▹ (λ h. h.keys21) ▹
@@ -67,7 +67,7 @@ returns c =
     let are = rows_are c.before.before in
     ap₂ sum (c.before.entry.ensures ∙ ap (λ (r : Rows). entry_of r.low0 r.low8 (a.x % 16)) are)
     (c.entry2.ensures ∙ ap (λ (r : Rows). entry_of r.high0 r.high8 (a.x / 16)) are)
-    ∙ product-by-entries a.multiplier a.x (omega arith) (omega arith)
+    ∙ product_by_entries a.multiplier a.x (omega arith) (omega arith)
 
-pub split-product-spec : {M : Type 1} → statement M
-split-product-spec = tie.close (tie.spec entry-requires entry-requires-2 returns)
+pub split_product_spec : {M : Type 1} → statement M
+split_product_spec = tie.close (tie.spec entry-requires entry-requires-2 returns)
