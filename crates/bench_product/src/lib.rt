@@ -1,4 +1,6 @@
 // The field's product, exported for the bench alone, which calls it from outside. No premise is put on the caller.
+#![tactic(auto)]
+
 ghost use Rattle.std.specs.Prelude.{◌≡◌};
 ghost use Rattle.gf256.specs.Field.{product};
 

@@ -1,12 +1,14 @@
 // The judge of bit-matrix codes for RAID-6 at word size 8: whether any two lost words of a code can be rebuilt (000, definition 3.1.1), and
 // how dense its matrices are.
+#![tactic(auto)]
+
 ghost use Rattle.std.specs.Prelude.{◌≡◌, ◌≤◌};
 ghost use Rattle.bitmatrix.specs.Judge.{ones, Judges};
 
 use findings::Finding;
 
 // Refused with its number, or result 0 with the finding, the ones of the matrices that count, and whether a fit code of k has just 9k - 1.
-#[derive(Drop)]
+#[derive(Clone, Copy)]
 pub enum Judgement {
     Refused(u8),
     Judged {

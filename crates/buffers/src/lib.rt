@@ -1,4 +1,6 @@
 // The program's buffers, and the answer to what was read into them.
+#![tactic(auto)]
+
 ghost use Rattle.buffers.specs.Buffers.{AnswerInputCall};
 
 use header::LIMIT;

@@ -1,4 +1,6 @@
 // What a change of a disk's bytes makes of P and Q, a chunk at a time.
+#![tactic(auto)]
+
 ghost use Rattle.std.specs.Prelude.{◌≡◌};
 ghost use Rattle.change.specs.Changed.{changed_by};
 
@@ -6,7 +8,7 @@ use chunk::WIDTH;
 use gf256::Element;
 
 // P and Q of a chunk of columns.
-#[derive(Drop)]
+#[derive(Clone, Copy)]
 pub struct Parities {
     pub p: [u8; WIDTH],
     pub q: [u8; WIDTH],

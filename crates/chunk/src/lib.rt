@@ -1,6 +1,8 @@
 // A chunk: WIDTH bytes of a block at once, worked on place by place. A loop over the places has a
 // fixed length, so that it becomes vector code. What a function writes it first lends as a slice,
 // which compiles to nothing: it tells the proof how many bytes there are.
+#![tactic(auto)]
+
 ghost use Rattle.std.specs.Prelude.{◌≡◌, ◌≤◌, ltb, length, get_or};
 ghost use Rattle.base.specs.Choice.{choose};
 ghost use Rattle.base.specs.Table.{tabulate};

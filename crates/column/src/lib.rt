@@ -1,8 +1,9 @@
 // One column: position i of all devices. The devices of a stripe and what may be lost of them; the
 // equations, what each call does to a column and the theory of two parities are in specs/ and proofs/.
+#![tactic(auto)]
 
 // A device of a stripe: a data disk by its number, or a parity.
-#[derive(Drop)]
+#[derive(Clone, Copy)]
 pub enum Device {
     Data(usize),
     P,
@@ -10,7 +11,7 @@ pub enum Device {
 }
 
 // One lost device, or two.
-#[derive(Drop)]
+#[derive(Clone, Copy)]
 pub enum Lost {
     One(Device),
     Two(Device, Device),

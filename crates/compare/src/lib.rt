@@ -1,5 +1,7 @@
 // The stored parities of a stripe held against those that its data give: a verdict for each column, and their summary. The columns are worked
 // on in chunks, of which the last may be a part, or in strips.
+#![tactic(auto)]
+
 ghost use Rattle.std.specs.Prelude.{◌≡◌, ◌+◌, ◌≤◌, length};
 ghost use Rattle.base.specs.Choice.{choose};
 ghost use Rattle.base.specs.Table.{tabulate};

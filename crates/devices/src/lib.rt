@@ -1,5 +1,7 @@
 // The devices of a loss: what device codes name, and the refusal of a rebuild. Every function takes any
 // numbers and any devices.
+#![tactic(auto)]
+
 ghost use Rattle.std.specs.Prelude.{◌≡◌};
 ghost use Rattle.base.specs.Refusal.{first_of};
 ghost use Rattle.devices.specs.Refusals.{loss_refusals, unknown, same_device, rebuild_refusal};
@@ -9,7 +11,7 @@ use column::{Device, Lost};
 use shape::Geometry;
 
 // What a device code stands for.
-#[derive(Drop)]
+#[derive(Clone, Copy)]
 pub enum Named {
     Device(Device),
     Nothing,
@@ -17,7 +19,7 @@ pub enum Named {
 }
 
 // What two codes name.
-#[derive(Drop)]
+#[derive(Clone, Copy)]
 pub enum Naming {
     Loss(Lost),
     Wrong,

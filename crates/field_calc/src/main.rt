@@ -1,5 +1,6 @@
 // Answers records on standard input with the operations of the field, so that tests outside the
 // proofs can ask for any of them.
+#![tactic(auto)]
 
 // A whole number of records.
 const CAPACITY: usize = 61440;

@@ -2,12 +2,14 @@
 // a, and a big-endian number of eight bytes, which is the exponent of a power and otherwise holds the
 // operand b in its low byte. The answer is two bytes a record, in order: 01 and the value, or 00 00
 // for none.
+#![tactic(auto)]
+
 ghost use Rattle.std.specs.Prelude.{◌≡◌, ◌+◌, ◌≤◌, ◌<◌, length, get_or};
 ghost use Rattle.field_records.specs.Records.{bytes_of, answer, number_at, AnswerAllCall, HalfRead};
 
 use gf256::{Element, Inverse, Logarithm};
 
-#[derive(Drop)]
+#[derive(Clone, Copy)]
 enum Answer {
     Is(u8),
     None,

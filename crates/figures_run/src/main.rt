@@ -1,5 +1,7 @@
 // Runs the bench figures and prints a table: the case, the value that it must give, the value that
 // the code gives, and whether they agree.
+#![tactic(auto)]
+
 ghost use Rattle.std.specs.Prelude.{◌≤◌, ◌<◌, length};
 
 use bitmatrix::Judgement;

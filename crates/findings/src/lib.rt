@@ -1,5 +1,7 @@
 // What is wrong with a bit-matrix code for RAID-6 at word size 8: the first singular matrix, or the first two whose sum is singular. A code
 // with neither can rebuild any two lost words (000, definition 3.1.1).
+#![tactic(auto)]
+
 ghost use Rattle.std.specs.Prelude.{◌≡◌, ◌≤◌, ◌<◌, min};
 ghost use Rattle.findings.specs.Findings.{
   first,
@@ -11,7 +13,7 @@ ghost use Rattle.findings.specs.Findings.{
 };
 
 // What is wrong with a code: nothing, the first singular matrix, or the first two whose sum is singular.
-#[derive(Drop)]
+#[derive(Clone, Copy)]
 pub enum Finding {
     Fit,
     Singular(usize),

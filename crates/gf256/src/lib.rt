@@ -1,6 +1,8 @@
 // The field GF(2^8) of the paper's section 1: bytes as polynomials over two elements, modulo
 // x^8 + x^4 + x^3 + x^2 + 1. An element is a kind of its own, so that bytes, disk numbers and
 // exponents cannot be mixed.
+#![tactic(auto)]
+
 mod logarithm_table;
 mod power_table;
 mod split_tables;
@@ -12,18 +14,18 @@ use logarithm_table::LOGARITHMS;
 use power_table::POWERS;
 use split_tables::split_product;
 
-#[derive(Drop)]
+#[derive(Clone, Copy)]
 pub struct Element(pub u8);
 
 // The inverse of an element. 00 has none.
-#[derive(Drop)]
+#[derive(Clone, Copy)]
 pub enum Inverse {
     Is(Element),
     None,
 }
 
 // The logarithm of an element to base 02, an exponent below 255. 00 has none.
-#[derive(Drop)]
+#[derive(Clone, Copy)]
 pub enum Logarithm {
     Is(u64),
     None,

@@ -5,7 +5,7 @@ ghost use Rattle.std.specs.Prelude.{◌≡◌};
 ghost use Rattle.gf256.specs.Field.{product, entry_of};
 
 // The two tables of a multiplier, each as two words of eight entries, the lowest byte first.
-#[derive(Drop)]
+#[derive(Clone, Copy)]
 struct Rows {
     low0: u64,
     low8: u64,

@@ -1,5 +1,7 @@
 // The header of a job, 14 bytes read by fields, and the refusal of a job, the first in its order that
 // applies.
+#![tactic(auto)]
+
 ghost use Rattle.std.specs.Prelude.{◌≡◌};
 ghost use Rattle.devices.specs.Codes.{named_by};
 ghost use Rattle.base.specs.Refusal.{first_of};

@@ -1,5 +1,7 @@
 // One job: a header of 14 bytes and a stripe, answered by six bytes and, unless the job is refused,
 // the stripe after its encode, rebuild or repair, or what a check of it found.
+#![tactic(auto)]
+
 ghost use Rattle.std.specs.Prelude.{◌≡◌, ◌+◌, ◌*◌, ◌≤◌, length};
 ghost use Rattle.shape.specs.Refusals.{encode_refusal};
 ghost use Rattle.compare.specs.Compare.{verdicts};

@@ -1,4 +1,6 @@
 // The bytes that answer a judgement of the judge of bit-matrix codes.
+#![tactic(auto)]
+
 ghost use Rattle.std.specs.Prelude.{◌≡◌};
 ghost use Rattle.base.specs.Choice.{choose};
 ghost use Rattle.judge_answer.specs.Answer.{answer_bytes};

@@ -1,4 +1,6 @@
 // Reads a code: eight matrices of eight row bytes, one after the other.
+#![tactic(auto)]
+
 ghost use Rattle.std.specs.Prelude.{◌≡◌, ◌+◌, ◌≤◌, length};
 ghost use Rattle.judge_code.specs.Code.{matrix_at, code_at};
 

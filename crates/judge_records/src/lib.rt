@@ -1,5 +1,7 @@
 // Judges codes from records: each code is a record of 65 bytes, the count and then eight matrices of eight row bytes, and each answer a
 // record of seven bytes.
+#![tactic(auto)]
+
 ghost use Rattle.std.specs.Prelude.{◌≡◌, ◌+◌, ◌≤◌, min, length};
 ghost use Rattle.base.specs.Table.{spliced};
 ghost use Rattle.judge_records.specs.Records.{answer_at, JudgeAllCall};

@@ -1,5 +1,7 @@
 // Judges codes from standard input, for tests from outside: records of 65 bytes in, answers of seven bytes out. At most 64 codes are read,
 // and there is room for their answers.
+#![tactic(auto)]
+
 use libc::{STDIN_FILENO, STDOUT_FILENO};
 
 fn main() {

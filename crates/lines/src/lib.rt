@@ -1,4 +1,6 @@
 // A line of a roster text, and what can be wrong with one.
+#![tactic(auto)]
+
 ghost use Rattle.std.specs.Prelude.{◌≡◌};
 ghost use Rattle.serials.specs.Serials.{serials};
 ghost use Rattle.lines.specs.Lines.{is_character, has_bad};
@@ -11,7 +13,7 @@ pub const MOST: usize = 257;
 pub const LONGEST: usize = 20;
 
 // What can be wrong with a line.
-#[derive(Drop)]
+#[derive(Clone, Copy)]
 pub enum Fault {
     BadCharacter,
     BadLength,
@@ -21,7 +23,7 @@ pub enum Fault {
 }
 
 // What the tests of a line say.
-#[derive(Drop)]
+#[derive(Clone, Copy)]
 pub enum Judged {
     Fine,
     Faulty(Fault),

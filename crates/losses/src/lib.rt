@@ -1,5 +1,7 @@
 // How lost roles are restored: they are taken as 00, and the lost bytes are solved from P* and Q* of
 // that column by a rule.
+#![tactic(auto)]
+
 ghost use Rattle.std.specs.Prelude.{◌≡◌};
 ghost use Rattle.losses.specs.Losses.{solutions};
 
@@ -7,7 +9,7 @@ use chunk::WIDTH;
 use gf256::Element;
 
 // How the bytes of two lost roles come from P* and Q*, here p and q.
-#[derive(Drop)]
+#[derive(Clone, Copy)]
 pub enum Rule {
     // The first is a p + b q, the second what is left of p: equations 19 and 20, and with a = 00
     // equation 5.
@@ -17,7 +19,7 @@ pub enum Rule {
 }
 
 // What a loss asks for.
-#[derive(Drop)]
+#[derive(Clone, Copy)]
 pub enum Plan {
     // One role by equation 1 alone.
     ByP(usize),
@@ -28,7 +30,7 @@ pub enum Plan {
 }
 
 // The new bytes of the two lost roles in a chunk.
-#[derive(Drop)]
+#[derive(Clone, Copy)]
 pub struct Restored {
     pub first: [u8; WIDTH],
     pub second: [u8; WIDTH],

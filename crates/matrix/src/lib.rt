@@ -1,5 +1,7 @@
 // Matrices of eight rows and eight columns over two elements: whether one is singular, the sum of two, and the ones of one. A matrix is
 // eight row bytes; column c of a row is its bit of weight 2^c.
+#![tactic(auto)]
+
 ghost use Rattle.std.specs.Prelude.{◌≡◌, eqb};
 ghost use Rattle.matrix.specs.Fold.{sum};
 ghost use Rattle.matrix.specs.Matrix.{bit, apply, add, singular, weight};

@@ -1,4 +1,6 @@
 // What was lost, restored by a plan in a stripe whose block a chunk can hold.
+#![tactic(auto)]
+
 ghost use Rattle.std.specs.Prelude.{◌≡◌, ◌+◌, ◌<◌};
 ghost use Rattle.losses.specs.Losses.{restored_by, solved, KnownPlan};
 ghost use Rattle.shape.specs.Layout.{lift};

@@ -1,5 +1,7 @@
 // What a rebuild asks for: its refusal, or the plan of its loss, which is the row of the table of
 // losses.
+#![tactic(auto)]
+
 ghost use Rattle.std.specs.Prelude.{◌≡◌, ◌≢◌, ◌≤◌, ◌<◌};
 ghost use Rattle.gf256.specs.Field.{power};
 ghost use Rattle.column.specs.Column.{over_power};
@@ -12,7 +14,7 @@ use losses::{Plan, Rule};
 use shape::Geometry;
 
 // A plan, or the refusal of a rebuild that has none.
-#[derive(Drop)]
+#[derive(Clone, Copy)]
 pub enum Asked {
     Refused(u8),
     Rebuild(Plan),

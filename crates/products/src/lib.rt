@@ -1,5 +1,7 @@
 // Products of chunks with elements, place by place. As in `chunk`, what a function writes it first lends
 // as a slice.
+#![tactic(auto)]
+
 ghost use Rattle.std.specs.Prelude.{◌≡◌, get_or};
 ghost use Rattle.gf256.specs.Field.{double};
 ghost use Rattle.chunk.specs.Chunk.{each};

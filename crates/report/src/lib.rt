@@ -1,4 +1,6 @@
 // The report of a check as bytes: the summary and the verdicts of a stripe, each as a field.
+#![tactic(auto)]
+
 ghost use Rattle.std.specs.Prelude.{◌≡◌, ◌+◌, ◌*◌, length};
 ghost use Rattle.shape.specs.Refusals.{check_refusal};
 ghost use Rattle.compare.specs.Compare.{verdicts};

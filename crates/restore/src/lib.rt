@@ -1,5 +1,7 @@
 // What was lost, restored by a plan: in each column the bytes of the lost roles from the others. The
 // columns are worked on in chunks.
+#![tactic(auto)]
+
 ghost use Rattle.std.specs.Prelude.{◌≡◌, ◌+◌, ◌≤◌, ◌<◌};
 ghost use Rattle.column.specs.Column.{encode_column, reed_solomon};
 ghost use Rattle.chunk.specs.Chunk.{width};

@@ -1,5 +1,7 @@
 // The roster of serials: which disk stands in which slot. A text has one line for each slot, in slot order; it is
 // read, and written from any serials that are lent. A refusal comes with the line, counted from 1.
+#![tactic(auto)]
+
 ghost use Rattle.std.specs.Prelude.{◌≡◌, ◌≤◌, length};
 ghost use Rattle.serials.specs.Serials.{serials};
 ghost use Rattle.roster.specs.Text.{roster_text};
@@ -10,14 +12,14 @@ use lines::{Fault, Judged, MOST};
 const LINE_FEED: u8 = 10;
 
 // A roster's slots, or the first fault and its line.
-#[derive(Drop)]
+#[derive(Clone, Copy)]
 pub enum Reading {
     Slots(usize),
     Refused(Fault, usize),
 }
 
 // A written text's length; the first fault and its line; or too short an output.
-#[derive(Drop)]
+#[derive(Clone, Copy)]
 pub enum Written {
     Length(usize),
     Refused(Fault, usize),

@@ -1,4 +1,6 @@
 // What a fitter who asks for a serial is answered: a line with its slot, with none, or with why the roster's text is refused.
+#![tactic(auto)]
+
 ghost use Rattle.std.specs.Prelude.{◌≡◌, ◌+◌, ◌%◌, ◌≤◌, ◌++◌, length};
 ghost use Rattle.lines.specs.Faults.{number_of};
 ghost use Rattle.roster_answer.specs.Words.{digit, decimal, found_line, refused_line};

@@ -1,5 +1,7 @@
 // The program's buffers. A text of any length is taken in by pieces, and what is kept of it has room here; so have the first bytes
 // of the asked serial, and every answer.
+#![tactic(auto)]
+
 ghost use Rattle.std.specs.Prelude.{◌≡◌, ◌++◌, length, take};
 ghost use Rattle.roster_answer.specs.Answer.{Begins};
 ghost use Rattle.roster_buffers.specs.Kept.{kept_size, held_size, kept, is_taken, Holds, AnswerHeldCall};

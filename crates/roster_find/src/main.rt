@@ -1,10 +1,12 @@
 // Answers on standard output which slot of the roster on standard input has the serial that is the one argument.
+#![tactic(auto)]
+
 use libc::{STDERR_FILENO, STDIN_FILENO, STDOUT_FILENO};
 use roster_answer::ANSWER;
 use roster_buffers::{ASKED, HELD};
 
 // How many bytes are held of the roster.
-#[derive(Drop)]
+#[derive(Clone, Copy)]
 enum Roster {
     Held(usize),
     Unread,

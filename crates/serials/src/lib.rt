@@ -1,10 +1,12 @@
 // The serials of a roster, and the look-up of one. They are lent as bytes and the place where each serial ends:
 // the next begins one byte after it. Any bytes with any places are some serials.
+#![tactic(auto)]
+
 ghost use Rattle.std.specs.Prelude.{◌≡◌, ◌-◌, min, take, drop, get_or, []};
 ghost use Rattle.serials.specs.Serials.{serials};
 ghost use Rattle.serials.specs.LookUp.{alike, look_up, is_found};
 
-#[derive(Drop)]
+#[derive(Clone, Copy)]
 pub enum Found {
     Slot(usize),
     Nowhere,

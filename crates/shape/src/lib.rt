@@ -1,19 +1,21 @@
 // What describes a stripe, where its blocks begin, and the refusal of each call that names no loss.
 // Every function takes any numbers.
+#![tactic(auto)]
+
 ghost use Rattle.std.specs.Prelude.{◌≡◌};
 ghost use Rattle.base.specs.Refusal.{first_of};
 ghost use Rattle.shape.specs.Layout.{low_start, place_before};
 ghost use Rattle.shape.specs.Refusals.{library, limits_refusals, shape_refusals, stretch_refusals, encode_refusal, write_refusal, check_refusal};
 
 // n data disks with blocks of b bytes, then P and Q.
-#[derive(Drop)]
+#[derive(Clone, Copy)]
 pub struct Geometry {
     pub n: usize,
     pub b: usize,
 }
 
 // The largest n and b that a call takes. Their types keep (n + 2) * b within 64 bits.
-#[derive(Drop)]
+#[derive(Clone, Copy)]
 pub struct Limits {
     pub n: u16,
     pub b: u32,

@@ -1,5 +1,7 @@
 // What the shelf's controller, written in C, calls: include/shelf.h says it in C's terms. Every
 // number that is passed is 64 bits wide, and no premise is put on the caller.
+#![tactic(auto)]
+
 ghost use Rattle.stripe.specs.Calls.{EncodeCall, RebuildNamedCall, RepairCall};
 ghost use Rattle.write.specs.Write.{WriteCall};
 ghost use Rattle.shape.specs.Layout.{geometry};

@@ -1,4 +1,6 @@
 // Answers the job on standard input on standard output.
+#![tactic(auto)]
+
 use buffers::{INPUT, OUTPUT};
 use libc::{STDERR_FILENO, STDIN_FILENO, STDOUT_FILENO};
 

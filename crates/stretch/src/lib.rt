@@ -1,4 +1,6 @@
 // A stretch of columns as a chunk: the bytes of one role in the w columns from i on.
+#![tactic(auto)]
+
 ghost use Rattle.std.specs.Prelude.{◌≡◌, ◌+◌, ◌-◌, min, ltb};
 ghost use Rattle.chunk.specs.Chunk.{each};
 ghost use Rattle.stretch.specs.Stretch.{has_columns, column_of, has_stretch, set_on};

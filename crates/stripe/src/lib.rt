@@ -1,6 +1,8 @@
 // A stripe of RAID-6 in one lent buffer: n data disks, then P and Q, a block of b bytes each.
 // Position i of all devices is column i. Every call takes any numbers and bytes; a refusal returns
 // its number and changes nothing.
+#![tactic(auto)]
+
 ghost use Rattle.stripe.specs.Calls.{EncodeCall, RebuildCall, RebuildNamedCall, CheckCall, RepairCall};
 
 use column::Lost;
@@ -12,7 +14,7 @@ use verdict::Faulty;
 
 // What a check answers: a refusal's number, or the summary of the verdicts: 0 if all columns are clean,
 // the common verdict if all unclean ones agree, and 4, mixed, otherwise.
-#[derive(Drop)]
+#[derive(Clone, Copy)]
 pub enum Checked {
     Refused(u8),
     Summary(u16),

@@ -1,5 +1,7 @@
 // The sums over the disks in a stretch of columns, by Horner's rule (equation 21) from the highest
 // disk down. A stripe that has not these columns is taken as 00.
+#![tactic(auto)]
+
 ghost use Rattle.std.specs.Prelude.{◌≡◌, ◌⊎◌, ◌+◌, ◌≤◌, ◌<◌, get_or};
 ghost use Rattle.chunk.specs.Chunk.{width, each};
 ghost use Rattle.losses.specs.Losses.{without, by_p};
@@ -15,7 +17,7 @@ use chunk::WIDTH;
 use shape::Geometry;
 
 // Both sums of a chunk of columns.
-#[derive(Drop)]
+#[derive(Clone, Copy)]
 pub struct Sums {
     pub p: [u8; WIDTH],
     pub q: [u8; WIDTH],

@@ -1,4 +1,6 @@
 // The verdict that P* and Q* give, on one column and on the columns of a chunk, and the summary.
+#![tactic(auto)]
+
 ghost use Rattle.std.specs.Prelude.{false, ◌≢◌, ◌≡◌, length, get_or};
 ghost use Rattle.base.specs.Table.{tabulate};
 ghost use Rattle.gf256.specs.Field.{first_exponent};
@@ -73,7 +75,7 @@ pub fn joined(found: u16, next: u16) -> u16
 }
 
 // What a summary names.
-#[derive(Drop)]
+#[derive(Clone, Copy)]
 pub enum Faulty {
     One(Device),
     None,

@@ -1,4 +1,6 @@
 // Small writes to a stripe: a stretch of one data disk is set, and what changed is added to P and Q.
+#![tactic(auto)]
+
 ghost use Rattle.std.specs.Prelude.{◌≡◌, ◌+◌, ◌<◌, ◌≤◌, length, get_or};
 ghost use Rattle.gf256.specs.Field.{power};
 ghost use Rattle.chunk.specs.Chunk.{width};
