@@ -5,5 +5,6 @@ pub mod Additive
 pub mod Product
 pub mod Tables
 pub mod SplitTables
+pub mod SplitRules
 pub mod Powers
 pub mod Laws

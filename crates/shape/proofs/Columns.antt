@@ -1,7 +1,7 @@
 -- The laws of steps that change some columns: none, the same said otherwise, one step after another on the same columns, on the next ones
 -- and on some of both, and all columns of the stripe, which is `lift`.
 -- Assumes nothing.
-use Rattle.std.proofs.Common.{◌≡◌, ℕ, ◌+◌, ◌-◌, ◌<◌, ◌≤◌, ◌⊎◌, List, length, sym, refl, ap, ◌∙◌, subst, inl, inr, ⊎_elim, not-suc-le-zero, zero-add, arith}
+use Rattle.std.proofs.Common.{◌≡◌, ℕ, ◌+◌, ◌-◌, ◌<◌, ◌≤◌, List, length, sym, refl, ap, ◌∙◌, subst, inl, inr, ⊎_elim, not-suc-le-zero, zero-add, arith}
 use Rattle.base.proofs.Choice.{below_or_not}
 use Rattle.column.specs.Column.{Column}
 use Rattle.shape.specs.declared.Geometry.{Geometry}

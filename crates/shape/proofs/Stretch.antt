@@ -1,6 +1,6 @@
 -- A stretch of a block: where it stands in the buffer, and what setting it does to the columns.
 -- Assumes nothing.
-use Rattle.std.proofs.Common.{◌≡◌, ℕ, suc, ◌+◌, ◌-◌, ◌<◌, ◌≤◌, ◌≢◌, ◌⊎◌, List, length, get_or, take, drop, sym, ap, ◌∙◌, ⊎_elim, arith}
+use Rattle.std.proofs.Common.{◌≡◌, ℕ, suc, ◌+◌, ◌-◌, ◌<◌, ◌≤◌, ◌≢◌, List, length, get_or, take, drop, sym, ap, ◌∙◌, ⊎_elim, arith}
 use Rattle.base.specs.Table.{spliced}
 use Rattle.base.proofs.Choice.{below_or_not}
 use Rattle.base.proofs.Tails.{part_place}

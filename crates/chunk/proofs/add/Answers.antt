@@ -1,0 +1,7 @@
+-- `chunk::add` meets its contract. The loop's invariant: the places below j are summed. The measure is what is left.
+use native.Mathlib.Omega.{arith}
+use Rattle.base.proofs.Fill.{fill_all}
+use Rattle.chunk.proofs.add.Goals as goal
+
+pub returns : goal.returns
+returns c = fill_all c.loop-j.invariant.1 (omega arith)

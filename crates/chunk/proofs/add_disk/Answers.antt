@@ -1,0 +1,7 @@
+-- `chunk::add_disk` meets its contract. The loop's invariant: the places below i are summed. The measure is what is left.
+use native.Mathlib.Omega.{arith}
+use Rattle.base.proofs.Fill.{fill_all}
+use Rattle.chunk.proofs.add_disk.Goals as goal
+
+pub returns : goal.returns
+returns c = (fill_all c.loop-i.invariant.1 (omega arith), fill_all c.loop-i.invariant.2 (omega arith))
