@@ -4,6 +4,7 @@ pub mod Xor
 pub mod Additive
 pub mod Product
 pub mod Tables
+pub mod TableRules
 pub mod SplitTables
 pub mod SplitRules
 pub mod Powers

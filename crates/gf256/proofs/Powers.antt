@@ -20,8 +20,9 @@ use Rattle.gf256.proofs.Check.{same_at}
 use Rattle.gf256.proofs.Xor.{xor_zero}
 use Rattle.gf256.proofs.Additive.{Additive, additive_sum}
 use Rattle.gf256.proofs.Product.{product_left, product_right, product_lt, product_comm, product_assoc, product_one, product_zero, zero_product, double_product}
-use Rattle.gf256.proofs.Tables.{powers, logarithms, powers_first, powers_next, powers_nonzero}
-use Rattle.gf256.proofs.Tables
+use Rattle.gf256.proofs.Tables.{powers, logarithms}
+use Rattle.gf256.proofs.TableRules.{powers_first, powers_next, powers_nonzero}
+use Rattle.gf256.proofs.TableRules
 
 -- ---- powers of any element
 pub power_lt : (x e : ℕ) → power x e < 256
@@ -91,17 +92,17 @@ power_of_two_nonzero e z =
 -- 02 has order 255
 pub power_of_two_injective : (i j : ℕ) → i < 255 → j < 255 → power 2 i ≡ power 2 j → i ≡ j
 power_of_two_injective i j hi hj h =
-    sym (Tables.logarithm_power i hi)
+    sym (TableRules.logarithm_power i hi)
     ∙ ap (λ (n : ℕ). get_or logarithms (n - 1) 0) (sym (power_entry i hi) ∙ h ∙ power_entry j hj)
-    ∙ Tables.logarithm_power j hj
+    ∙ TableRules.logarithm_power j hj
 
 -- ---- the elements other than 00 are the powers of 02
 pub exponent_entry : (x : ℕ) → x < 255 → ExponentOf (suc x) (get_or logarithms x 0)
 exponent_entry x h =
-    record { below = below; is = power_entry (get_or logarithms x 0) below ∙ Tables.power_logarithm x h }
+    record { below = below; is = power_entry (get_or logarithms x 0) below ∙ TableRules.power_logarithm x h }
   where
     below : get_or logarithms x 0 < 255
-    below = Tables.logarithm_below x h
+    below = TableRules.logarithm_below x h
 
 -- every element other than 00 has an exponent
 pub exponent_of : (x : ℕ) → x < 256 → x ≢ 0 → (l : ℕ) × ExponentOf x l

@@ -8,7 +8,7 @@ use lib.Dec.{eqb}
 use Rattle.base.specs.Choice.{choose}
 use Rattle.gf256.specs.Field.{power}
 use Rattle.gf256.proofs.Laws.{product_right}
-use Rattle.column.specs.Column.{Column, put, total, parity_p, parity_q, syndrome_p, syndrome_q, reed_solomon}
+use Rattle.column.specs.Column.{Column, put, total, syndrome_p, syndrome_q, reed_solomon}
 use Rattle.column.proofs.Put.{put_twice}
 use Rattle.column.proofs.Weighted.{Additive, weighted, weighted_outside}
 use Rattle.losses.specs.declared.Plan.{Plan}

@@ -1,0 +1,7 @@
+-- `products::add_bits` meets its contract. The loop's invariant: the places below j are doubled, with the bits' parts. The measure is what is left.
+use native.Mathlib.Omega.{arith}
+use Rattle.base.proofs.Fill.{fill_all}
+use Rattle.products.proofs.add_bits.Goals as goal
+
+pub returns : goal.returns
+returns c = fill_all c.loop-j.invariant.1 (omega arith)
