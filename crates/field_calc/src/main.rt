@@ -2,16 +2,19 @@
 // proofs can ask for any of them.
 #![tactic(auto)]
 
+use std::io;
+use std::io::{Read, Write};
+
 // A whole number of records.
 const CAPACITY: usize = 61440;
 
-fn main() {
-    let mut input = [0u8; CAPACITY];
-    let n = io::read_full(0, &mut input);
-    respond(&mut input[..n]);
+fn main(rt: HostRuntime) -> io::Result<()> {
+    let mut input = Vec::new(rt.alloc());
+    rt.stdin().take(CAPACITY as u64).read_to_end(&mut input)?;
+    respond(&rt, &mut input)
 }
 
-fn respond(records: &mut [u8]) {
+fn respond(rt: &impl Print, records: &mut [u8]) -> io::Result<()> {
     let n = field_records::answer_all(records);
-    io::write_all(1, &records[..n]);
+    io::writer(rt).write_all(&records[..n])
 }

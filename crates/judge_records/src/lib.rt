@@ -30,7 +30,7 @@ fn put(out: &mut [u8], at: usize, answer: [u8; 7])
     ensures { out.new ≡ spliced out.old at answer }
 {
     let end = at + 7;
-    bytes::copy(&answer, &mut out[at..end]);
+    out[at..end].copy_from_slice(&answer);
 }
 
 fn judge_at(codes: &[u8], at: usize) -> [u8; 7]

@@ -2,12 +2,13 @@
 // and there is room for their answers.
 #![tactic(auto)]
 
-use libc::{STDIN_FILENO, STDOUT_FILENO};
+use std::io;
+use std::io::{Read, Write};
 
-fn main() {
-    let mut codes = [0u8; 4160];
-    let n = io::read_full(STDIN_FILENO, &mut codes);
+fn main(rt: HostRuntime) -> io::Result<()> {
+    let mut codes = Vec::new(rt.alloc());
+    rt.stdin().take(4160).read_to_end(&mut codes)?;
     let mut answers = [0u8; 448];
-    let count = judge_records::judge_all(&codes[..n], &mut answers);
-    io::write_all(STDOUT_FILENO, &answers[..count]);
+    let count = judge_records::judge_all(&codes, &mut answers);
+    io::writer(&rt).write_all(&answers[..count])
 }
