@@ -1,11 +1,8 @@
 -- `change::changed` meets its contract: place by place, each step is the definition's own.
-use borrow.Author.Rules.{rules}
 use mathlib.Core.Path.{◌≡◌, ap₂, ◌∙◌}
 use mathlib.Core.List.{List}
 use Prim.Native.Nat.{ℕ}
-use lib.ListN.{get_or}
 use Rattle.base.proofs.Table.{get_d_tabulate, tabulate_same}
-use Rattle.gf256.specs.Field.{sum, product}
 use Rattle.chunk.specs.Chunk.{width, plus}
 use Rattle.products.specs.Products.{plus_product}
 use Rattle.change.specs.declared.Parities.{Parities}
@@ -19,4 +16,4 @@ steps c old new p q is first second =
     ap₂ (λ (p q : List ℕ). record { p = p; q = q }) (first ∙ tabulate_same width (λ j h. rw (is, get_d_tabulate))) (second ∙ tabulate_same width (λ j h. rw (is, get_d_tabulate)))
 
 pub returns : goal.returns
-returns c = let a = c.args in steps a.c.0 a.old a.t3 a.p a.q c.add.ensures c.add-2.ensures c.add_product.ensures
+returns c = let a = c.args in steps a.c.0 a.old a.new a.p a.q c.add.ensures c.add-2.ensures c.add_product.ensures

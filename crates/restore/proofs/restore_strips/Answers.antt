@@ -1,0 +1,10 @@
+-- `restore::restore_strips` meets its contract. The loop's invariant: the first `done` columns are restored. The measure is what is left.
+use native.Mathlib.Omega.{arith}
+use Rattle.restore.proofs.Laws.{begun_next, begun_all}
+use Rattle.restore.proofs.restore_strips.Goals as goal
+
+pub loop-done-preserved : goal.loop-done-preserved
+loop-done-preserved c = begun_next c.requires.1 c.next_start-i.ensures c.loop-done.invariant c.restore_strip.ensures
+
+pub returns : goal.returns
+returns c = begun_all c.requires.0 (omega arith) c.loop-done.invariant

@@ -1,0 +1,63 @@
+-- `sums::add_pairs` meets its contract. The loop's invariant: the disks from k on are added, and `at` is column i of disk k's block.
+use borrow.Author.Rules.{elem_Fits}
+use mathlib.Core.Path.{◌≡◌, refl}
+use Prim.Native.Nat.{ℕ, ◌+◌, ◌-◌, ◌≤◌}
+use native.Mathlib.Omega.{arith}
+use mir.Syntax.{w8}
+use lib.ListN.{length}
+use Rattle.chunk.specs.Chunk.{width}
+use Rattle.shape.specs.declared.Geometry.{Geometry}
+use Rattle.shape.specs.Layout.{start, place_before}
+use Rattle.stretch.specs.Stretch.{Has}
+use Rattle.std.proofs.Common.{◌≡◌, ℕ, ◌+◌, ◌-◌, ◌<◌, ◌≤◌, List, length}
+use Rattle.chunk.specs.Chunk.{width}
+use Rattle.sums.proofs.Runs.{placed, inside, below, disk_added}
+use Rattle.sums.proofs.add_pairs.Goals as goal
+
+-- where the next two disks below disk k have the columns, and that they lie within the stripe
+places : {g : Geometry} {s : List ℕ} {i at above next : ℕ} → Has g s i width → (k : ℕ) → length s < 18446744073709551616 → 1 < k → k ≤ g.n → at ≡ start g k + i
+    → above ≡ place_before g at
+    → next ≡ place_before g above
+    → (above ≡ start g (k - 1) + i) × (next ≡ start g (k - 2) + i)
+places has k small two h is one other =
+    let first = below has small (k - 1) (omega arith) h is one in
+    (first, below has small (k - 2) (omega arith) (omega arith) first other)
+
+ends : {g : Geometry} {s : List ℕ} {i at above next : ℕ} → Has g s i width → (k : ℕ) → length s < 18446744073709551616 → 1 < k → k ≤ g.n → at ≡ start g k + i
+    → above ≡ place_before g at
+    → next ≡ place_before g above
+    → (above + width ≤ length s) × (next + width ≤ length s)
+ends has k small two h is one other =
+    let at = places has k small two h is one other in
+    (inside has (k - 1) (omega arith) at.0, inside has (k - 2) (omega arith) at.1)
+
+pub overflow_add-at : goal.overflow_add-at
+overflow_add-at c = omega (arith, inside c.requires.0 c.args.to (omega arith) (placed c.requires.0 c.args.to (omega arith) c.start.ensures))
+
+pub overflow_add-above : goal.overflow_add-above
+overflow_add-above c = omega (arith, (ends c.requires.0 c.loop-k.k (omega arith) (omega arith) (omega arith) c.loop-k.invariant.1 c.role_before-above.ensures c.role_before-at.ensures).0)
+
+pub slice_bounds-load-end : goal.slice_bounds-load-end
+slice_bounds-load-end c = omega (arith, (ends c.requires.0 c.loop-k.k (omega arith) (omega arith) (omega arith) c.loop-k.invariant.1 c.role_before-above.ensures c.role_before-at.ensures).0)
+
+pub overflow_add-at-in-loop-k : goal.overflow_add-at-in-loop-k
+overflow_add-at-in-loop-k c = omega (arith, (ends c.requires.0 c.loop-k.k (omega arith) (omega arith) (omega arith) c.loop-k.invariant.1 c.role_before-above.ensures c.role_before-at.ensures).1)
+
+pub slice_bounds-load-end-in-loop-k : goal.slice_bounds-load-end-in-loop-k
+slice_bounds-load-end-in-loop-k c = omega (arith, (ends c.requires.0 c.loop-k.k (omega arith) (omega arith) (omega arith) c.loop-k.invariant.1 c.role_before-above.ensures c.role_before-at.ensures).1)
+
+pub loop-k-preserved : goal.loop-k-preserved
+loop-k-preserved c =
+    let a = c.args in
+    let l = c.loop-k in
+    let d = c.load-d in
+    let e = c.load-e in
+    let at = places c.requires.0 c.loop-k.k (omega arith) (omega arith) (omega arith) c.loop-k.invariant.1 c.role_before-above.ensures c.role_before-at.ensures in
+    let first = disk_added a.g a.stripe.now a.i d.result (omega arith) (omega arith) (omega arith) l.invariant.2 at.0 d.ensures (λ j. (elem_Fits w8 w8 d.result d.type_inv.0 j d.type_inv.1.1 tt).fits) refl refl in (
+      omega arith,
+      at.1,
+      disk_added a.g a.stripe.now a.i e.result (omega arith) (omega arith) (omega arith) first at.1 e.ensures
+          (λ j. (elem_Fits w8 w8 e.result e.type_inv.0 j e.type_inv.1.1 tt).fits)
+          c.add_two_disks.ensures.0
+          c.add_two_disks.ensures.1,
+    )

@@ -1,0 +1,11 @@
+-- `sums::carry_chunk` meets its contract: the sums that P and Q hold, the disks of the pass, and both sums put back.
+use native.Mathlib.Omega.{arith}
+use Rattle.sums.proofs.Passes.{chunk_carried, chunk_passed}
+use Rattle.sums.proofs.carry_chunk.Goals as goal
+
+pub returns : goal.returns
+returns c =
+    let sums = c.add_disks in
+    chunk_passed sums.new.p sums.new.q (omega (arith, c.requires))
+    (chunk_carried c.requires.0 c.requires.2 c.chunk_at-p.ensures c.chunk_at-q.ensures sums.ensures)
+    c.set_sums.ensures

@@ -1,0 +1,16 @@
+-- `sums::set_page` meets its contract. The loop's invariant: from the sums of the first pass those over the disks from `to` on are made. The measure is `to`.
+use mathlib.Core.Path.{◌≡◌}
+use native.Mathlib.Omega.{arith}
+use Rattle.sums.proofs.Passes.{passed_on, passed_all}
+use Rattle.sums.proofs.set_page.Goals as goal
+
+pub loop-to-preserved : goal.loop-to-preserved
+loop-to-preserved c =
+    let l = c.loop-to in
+    (omega (arith, c.group_below-next.ensures.0, l.invariant.0), passed_on l.invariant.1 c.carry_page.ensures)
+
+pub returns : goal.returns
+returns c =
+    let l = c.loop-to in
+    let done : l.to ≡ 0 = omega arith in
+    passed_all c.requires.0.disk (passed_on c.begin_page.ensures (rw done at l.invariant.1))
