@@ -1,13 +1,9 @@
 -- `lines::has_bad` meets its contract. The loop's invariant: what is asked of all characters is what is asked of those from i on. The measure is what
-use mathlib.Core.Path.{◌≡◌, refl, sym, ◌∙◌}
+-- is left of them.
+use mathlib.Core.Path.{◌≡◌}
 use Prim.Native.Nat.{◌-◌, ◌≤◌}
-use native.Mathlib.Numerals.{add-one}
-use native.Mathlib.Omega.{arith}
-use borrow.Author.Rules.{rules}
-use borrow.Author.Tests.{not-true, not-false}
-use lib.ListN.{length, drop, drop_of_length-le}
+use lib.ListN.{length, drop}
 use Rattle.lines.specs.Lines.{has_bad}
-use Rattle.lines.proofs.Lines.{bad_here, bad_later}
 use Rattle.lines.proofs.has_bad.Given as goal
 
 abbrev pub invariant-loop-i : goal.invariant-loop-i
