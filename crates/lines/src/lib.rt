@@ -30,6 +30,7 @@ pub enum Judged {
 }
 
 // The first test that a line fails. The serials of the lines before it are lent.
+#[tactic(auto, using(serials::proofs::Laws::length_serials), unfolding(crate::specs::Faults::line_number))]
 pub fn judge(chars: &[u8], before: &[usize], serial: &[u8], ended: bool) -> Judged
     ensures { judged_number result ≡ line_number (serials chars.now before.now) serial.now ended }
 {

@@ -10,8 +10,7 @@ use native.Mathlib.Omega.{arith}
 use borrow.Author.Tests.{lt-ltb, le-ltb}
 use lib.Dec.{ltb}
 use lib.ListN.{length, take, drop, set, length-set, length-drop, take-append-drop, drop_of_length-le}
-use lib.Seq.{take-length, drop-drop, length-take-le, take-suc-set, drop-set-lt, append_snoc}
-use Rattle.bytes.specs.Bytes.{index_of, slice}
+use lib.Seq.{drop-drop, length-take-le, take-suc-set, drop-set-lt, append_snoc}
 use Rattle.base.specs.Refusal.{Answer}
 use Rattle.base.proofs.Choice.{below_or_not}
 use Rattle.base.proofs.Tails.{part_length}
@@ -21,7 +20,7 @@ use Rattle.lines.specs.declared.Fault.{Fault}
 use Rattle.lines.specs.Lines.{Line, line_feed, lines}
 use Rattle.lines.specs.Faults.{number_of, line_number, refused_at, first_fault}
 use Rattle.lines.proofs.Faults.{fault_here, fault_later, fine_slot}
-use Rattle.roster.specs.Text.{ends_from, line_ends}
+use Rattle.roster.specs.Text.{index_of, ends_from, line_ends}
 use Rattle.roster.specs.Calls.{done, read_answer, begun_with}
 use Rattle.roster.proofs.First.{first_line_lem}
 use Rattle.roster.proofs.Text.{length_ends}
@@ -42,16 +41,12 @@ unfolding read_answer serials_from
 read_none text ends size =
     record { most = omega arith; room = size; answer = refl; stored = refl; next = λ e. refl; rest = refl }
 
-module _ (text : List ℕ) (start end : ℕ) (h : start < length text) (is : end ≡ start + index_of line_feed (slice start (length text) text)) where
+module _ (text : List ℕ) (start end : ℕ) (h : start < length text) (at : end ≡ start + index_of line_feed (drop start text)) where
   abbrev serial : List ℕ
   serial = take (end - start) (drop start text)
 
   abbrev rest : List ℕ
   rest = drop start text
-
-  at : end ≡ start + index_of line_feed rest
-  unfolding slice
-  at = is ∙ ap (λ (t : List ℕ). start + index_of line_feed (drop start t)) (take-length text)
 
   ended_here : ltb (index_of line_feed rest) (length rest) ≡ ltb end (length text)
   ended_here =

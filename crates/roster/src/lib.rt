@@ -4,7 +4,8 @@
 
 ghost use Rattle.std.specs.Prelude.{◌≡◌, ◌≤◌, length};
 ghost use Rattle.serials.specs.Serials.{serials};
-ghost use Rattle.roster.specs.Text.{roster_text};
+ghost use Rattle.lines.specs.Lines.{line_feed};
+ghost use Rattle.roster.specs.Text.{roster_text, index_of};
 ghost use Rattle.roster.specs.Calls.{written_of, judge_answer, begun_with, ReadCall, WriteCall};
 
 use lines::{Fault, Judged, MOST};
@@ -36,7 +37,7 @@ pub fn read(text: &[u8], ends: &mut [usize; MOST]) -> Reading
     let mut slots = 0;
     let mut start = 0;
     while start < text.len() {
-        let end = bytes::scan::find(text, start, text.len(), LINE_FEED);
+        let end = start + line_length(&text[start..]);
         let judged = lines::judge(text, &found[..slots], &text[start..end], end < text.len());
         if let Judged::Faulty(fault) = judged {
             return Reading::Refused(fault, slots + 1);
@@ -47,6 +48,16 @@ pub fn read(text: &[u8], ends: &mut [usize; MOST]) -> Reading
     }
     *ends = found;
     Reading::Slots(slots)
+}
+
+// How long the first line of a text is: to its line feed, or to the text's end.
+fn line_length(text: &[u8]) -> usize
+    ensures within { result ≤ length text.now }
+    ensures place { result ≡ index_of line_feed text.now }
+{
+    text.iter()
+        .position(|c| *c == LINE_FEED)
+        .unwrap_or(text.len())
 }
 
 // Writes the text of any serials at the start of the output, whose other bytes stay; where it is refused, all do.
@@ -90,7 +101,8 @@ fn put_all(chars: &[u8], ends: &[usize], out: &mut [u8])
     let mut slot = 0;
     while slot < ends.len() {
         let serial = serials::serial(chars, ends, slot);
-        at += bytes::copy(serial, &mut out[at..]);
+        out[at..at + serial.len()].copy_from_slice(serial);
+        at += serial.len();
         out[at] = LINE_FEED;
         at += 1;
         slot += 1;

@@ -30,7 +30,7 @@ fn tell_found(found: Found, out: &mut [u8]) -> usize
 {
     match found {
         Found::Slot(slot) => tell(b"slot ", slot, b"\n", out),
-        Found::Nowhere => bytes::copy(b"none\n", out),
+        Found::Nowhere => put(b"none\n", out),
     }
 }
 
@@ -73,17 +73,27 @@ fn tell(head: &[u8], number: usize, tail: &[u8], out: &mut [u8]) -> usize
     ensures { Begins ((head.now ++ decimal number) ++ tail.now) out.old result out.new }
 {
     let end = put_numbered(head, number, out);
-    end + bytes::copy(tail, &mut out[end..])
+    end + put(tail, &mut out[end..])
 }
 
 fn put_numbered(head: &[u8], number: usize, out: &mut [u8]) -> usize
     requires { length head.now + 3 ≤ length out.old }
     ensures { Begins (head.now ++ decimal number) out.old result out.new }
 {
-    let end = bytes::copy(head, out);
+    let end = put(head, out);
     end + put_decimal(number, &mut out[end..])
 }
 
+// Puts words at the start of the output.
+fn put(words: &[u8], out: &mut [u8]) -> usize
+    requires { length words.now ≤ length out.old }
+    ensures { Begins words.now out.old result out.new }
+{
+    out[..words.len()].copy_from_slice(words);
+    words.len()
+}
+
+#[tactic(auto, unfolding(crate::specs::Words::decimal))]
 fn put_decimal(n: usize, out: &mut [u8]) -> usize
     requires { 3 ≤ length out.old }
     ensures { Begins (decimal n) out.old result out.new }

@@ -1,0 +1,35 @@
+-- `roster_buffers::take_all` meets its contract.
+use mathlib.Core.Path.{◌≡◌, sym, ap, ◌∙◌}
+use mathlib.Core.List.{◌∷◌, [], ◌++◌, append_assoc}
+use Prim.Native.Nat.{◌+◌}
+use native.Mathlib.Numerals.{add-one}
+use native.Mathlib.Omega.{arith}
+use lib.ListN.{get_or, take, drop, length-set}
+use lib.Seq.{take-suc, drop-drop, drop-set-lt}
+use Rattle.roster_buffers.proofs.Kept.{holds_taken, holds_left, taken_room}
+use Rattle.roster_buffers.proofs.take_all.Goals as goal
+use Rattle.roster_buffers.proofs.take_all.Goals.{then-is_taken, else-is_taken}
+
+pub loop-i-preserved : goal.loop-i-preserved
+loop-i-preserved c =
+    let a = c.args in
+    let l = c.loop-i in
+    let byte = get_or a.more.now l.i 0 in
+    let next : take a.count a.held.now ++ take (l.i + 1) a.more.now ≡ (take a.count a.held.now ++ take l.i a.more.now) ++ (byte ∷ []) =
+    rw (add-one, take-suc a.more.now l.i 0 (omega arith)) (sym (append_assoc (take a.count a.held.now) (take l.i a.more.now) (byte ∷ [])))
+    in
+    elim c.if-is_taken.branch [
+      | then-is_taken w ↦
+          let is = sym c.is_taken.ensures ∙ w.if-is_taken.true in (
+            omega arith,
+            rw w.held-is (length-set l.held l.n byte ∙ l.invariant.1),
+            rw (w.held-is, w.n-is, next) (holds_taken l.held l.invariant.1 byte l.invariant.2 is (taken_room l.n byte is)),
+            rw (w.held-is, w.n-is) (drop-set-lt (l.n + 1) l.held l.n byte (omega arith) ∙ sym (drop-drop 1 l.n l.held) ∙ ap (drop 1) l.invariant.3 ∙ drop-drop 1 l.n a.held.now),
+          )
+      | else-is_taken w ↦ (
+        omega arith,
+        rw w.held-is l.invariant.1,
+        rw (w.held-is, w.n-is, next) (holds_left l.held l.invariant.1 byte l.invariant.2 (sym c.is_taken.ensures ∙ w.if-is_taken.false)),
+        rw (w.held-is, w.n-is) l.invariant.3,
+      )
+    ]
