@@ -49,7 +49,7 @@ fn respond(job: &[u8], res: u8, out: &mut [u8])
     ensures { out.new ≡ answer_to job.now }
 {
     let opening = [0x53, 0x52, 0x4a, 0, 1, res];
-    bytes::copy(&opening, out);
+    out[..6].copy_from_slice(&opening);
     if res != 0 {
         return;
     }
@@ -68,7 +68,7 @@ fn run(job: &[u8], out: &mut [u8])
         check(g, stripe, out);
         return;
     }
-    bytes::copy(stripe, out);
+    out.copy_from_slice(stripe);
     if command == 1 {
         stripe::encode(g, out);
         return;

@@ -32,7 +32,7 @@ fn check_in(g: Geometry, stripe: &[u8], room: &mut [u16], out: &mut [u8])
     let Checked::Summary(summary) = stripe::check(g, stripe, room) else {
         return;
     };
-    bytes::copy(&header::big_endian(summary), out);
+    out[..2].copy_from_slice(&header::big_endian(summary));
     put_all(room, &mut out[2..]);
 }
 

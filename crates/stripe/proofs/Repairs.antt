@@ -18,7 +18,6 @@ use Rattle.shape.specs.Refusals.{library, shape_refusals, encode_refusal}
 use Rattle.shape.proofs.Places.{length_lift, lift_same}
 use Rattle.shape.proofs.Refused.{well_shaped}
 use Rattle.verdict.specs.declared.Faulty.{Faulty}
-use Rattle.verdict.specs.declared.Faulty.TheVariants as Faulty
 use Rattle.verdict.specs.Faulty.{faulty_of}
 use Rattle.verdict.specs.Summary.{summary}
 use Rattle.compare.specs.Compare.{verdicts, summary_of}
