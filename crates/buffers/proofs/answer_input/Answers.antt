@@ -1,8 +1,7 @@
 -- `buffers::answer_input` meets its contract: what was read is a part of the input, and the output has room for every answer.
 use mathlib.Core.Path.{refl, sym}
 use native.Mathlib.Omega.{arith}
-use borrow.Author.Rules.{rules}
-use lib.Seq.{take_all, length-take-le}
+use lib.Seq.{take_all}
 use Rattle.buffers.proofs.Buffers.{input_answered}
 use Rattle.buffers.proofs.answer_input.Goals as goal
 
