@@ -1,7 +1,7 @@
 # `make` alone answers the first job.
 .DEFAULT_GOAL = example
-.PHONY: example test toolchain lib job find bench install uninstall
-# One rt at a time: they share target/.
+.PHONY: example test toolchain lib job find outside bench install uninstall
+# One rt at a time: they share the crates below.
 .NOTPARALLEL:
 
 # The whole gate; its last line is 'N passed, M failed'.
@@ -11,19 +11,29 @@ test:
 toolchain:
 	@command -v rt >/dev/null || { echo 'rt is missing: it is not on PATH' >&2; exit 2; }
 
+# A program is proved, built and run once on an empty input, and then stands below target/bin/.
+program-%: toolchain
+	cd crates/$* && rt run --cpu x86-64 -- 0 </dev/null >/dev/null
+	install -D crates/$*/out/$* target/bin/$*
+
+# An archive for C is proved and built, and then stands below target/staticlib/.
+archive-%: toolchain
+	cd crates/$* && rt lib --cpu x86-64
+	install -D -m 644 crates/$*/out/lib$*.a target/staticlib/lib$*.a
+
 # The library for C, below target/staticlib/: libshelf.a, and the shared library for each level of x86-64. include/shelf.h is
 # its header.
-lib: toolchain
-	rt staticlib shelf
+lib: archive-shelf
 	levels/build
 
 # The job program, target/bin/shelf_job.
-job: toolchain
-	rt check shelf_job
+job: program-shelf_job
 
 # The program that finds a disk's slot, target/bin/roster_find.
-find: toolchain
-	rt check roster_find
+find: program-roster_find
+
+# What the tests from outside run.
+outside: job find program-field_calc program-judge_run archive-roster_calls
 
 # A first job: two lost data disks come back from P and Q.
 example: job
@@ -32,10 +42,8 @@ example: job
 # How fast the library is, beside a plain encoder in Rust and, where they are installed, ISA-L and Linux's sources. It installs
 # nothing. The field's product and the roster aren't among what C calls, so the bench has libraries of them,
 # target/staticlib/libbench_product.a and libroster_calls.a.
-bench: lib
+bench: lib archive-bench_product archive-roster_calls
 	@command -v cargo >/dev/null || { echo 'cargo is missing: it is not on PATH' >&2; exit 2; }
-	rt staticlib bench_product
-	rt staticlib roster_calls
 	bench/linux
 	cd bench && cargo run --quiet --release --offline --locked
 

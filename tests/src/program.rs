@@ -14,7 +14,7 @@ const LIMIT: Duration = Duration::from_secs(120);
 
 fn path(name: &str) -> PathBuf {
     let path = PathBuf::from(concat!(env!("CARGO_MANIFEST_DIR"), "/../target/bin")).join(name);
-    assert!(path.exists(), "target/bin/{name} is missing: `rt check {name}` builds it");
+    assert!(path.exists(), "target/bin/{name} is missing: `make outside` builds it");
     path
 }
 

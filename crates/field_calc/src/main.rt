@@ -3,18 +3,18 @@
 #![tactic(auto)]
 
 use std::io;
-use std::io::{Read, Write};
+use std::io::Print;
 
 // A whole number of records.
 const CAPACITY: usize = 61440;
 
 fn main(rt: HostRuntime) -> io::Result<()> {
-    let mut input = Vec::new(rt.alloc());
-    rt.stdin().take(CAPACITY as u64).read_to_end(&mut input)?;
-    respond(&rt, &mut input)
+    let mut input = [0u8; CAPACITY];
+    let n = input::fill(&mut rt.stdin(), &mut input);
+    respond(&rt, &mut input[..n])
 }
 
-fn respond(rt: &impl Print, records: &mut [u8]) -> io::Result<()> {
+fn respond<P: Print>(rt: &P, records: &mut [u8]) -> io::Result<()> {
     let n = field_records::answer_all(records);
-    io::writer(rt).write_all(&records[..n])
+    rt.write_all(&records[..n])
 }

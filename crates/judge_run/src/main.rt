@@ -3,12 +3,12 @@
 #![tactic(auto)]
 
 use std::io;
-use std::io::{Read, Write};
+use std::io::Print;
 
 fn main(rt: HostRuntime) -> io::Result<()> {
-    let mut codes = Vec::new(rt.alloc());
-    rt.stdin().take(4160).read_to_end(&mut codes)?;
+    let mut codes = [0u8; 4160];
+    let n = input::fill(&mut rt.stdin(), &mut codes);
     let mut answers = [0u8; 448];
-    let count = judge_records::judge_all(&codes, &mut answers);
-    io::writer(&rt).write_all(&answers[..count])
+    let count = judge_records::judge_all(&codes[..n], &mut answers);
+    rt.write_all(&answers[..count])
 }
