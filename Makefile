@@ -13,7 +13,7 @@ toolchain:
 
 # A program is proved, built and run once on an empty input, and then stands below target/bin/.
 program-%: toolchain
-	cd crates/$* && rt run --cpu x86-64 -- 0 </dev/null >/dev/null
+	cd crates/$* && rt run --cpu x86-64 -- 0 </dev/null 2>&1 >/dev/null
 	install -D crates/$*/out/$* target/bin/$*
 
 # An archive for C is proved and built, and then stands below target/staticlib/.
