@@ -143,7 +143,7 @@ pub fn strip_survivors(
     *q = [0u8; STRIP];
     let mut to = g.n;
     while 0 < to {
-        let from = group_below(to, GROUP);
+        let from = group_below(to);
         add_to_strip(g, stripe, i, x, y, from, to, p, q);
         to = from;
     }
@@ -302,12 +302,17 @@ fn has_strip(g: Geometry, len: usize, i: usize) -> bool
     i <= g.b - STRIP
 }
 
-// The lowest of the `count` disks below `to`, or disk 0 where there are fewer.
-fn group_below(to: usize, count: usize) -> usize
-    requires { 0 < count }
+fn group_below(to: usize) -> usize
     ensures { (result ≤ to) × (0 < to → result < to) }
 {
-    if to < count { 0 } else { to - count }
+    if to < GROUP { 0 } else { to - GROUP }
+}
+
+// The lowest of the disks of a pass, or disk 0 where there are fewer.
+fn pass_below(to: usize) -> usize
+    ensures { (result ≤ to) × (0 < to → result < to) }
+{
+    if to < PASS { 0 } else { to - PASS }
 }
 
 // A group of disks in all chunks of a strip.
@@ -436,10 +441,10 @@ fn set_page(g: Geometry, stripe: &mut [u8], i: usize)
     requires { WellShaped g stripe.old × (i + page ≤ g.b) }
     ensures { ColumnsMapped g i page (λ j c. encode_column reed_solomon g.n c) stripe.old stripe.new }
 {
-    let mut to = group_below(g.n, PASS);
+    let mut to = pass_below(g.n);
     begin_page(g, stripe, i, to);
     while 0 < to {
-        let next = group_below(to, PASS);
+        let next = pass_below(to);
         carry_page(g, stripe, i, next, to);
         to = next;
     }

@@ -7,7 +7,7 @@ use Rattle.sums.proofs.set_page.Goals as goal
 pub loop-to-preserved : goal.loop-to-preserved
 loop-to-preserved c =
     let l = c.loop-to in
-    (omega (arith, c.group_below-next.ensures.0, l.invariant.0), passed_on l.invariant.1 c.carry_page.ensures)
+    (omega (arith, c.pass_below-next.ensures.0, l.invariant.0), passed_on l.invariant.1 c.carry_page.ensures)
 
 pub returns : goal.returns
 returns c =
