@@ -10,210 +10,257 @@ use findings::Finding;
 use gf256::{Element, Inverse, Logarithm};
 use header::LIMIT;
 use shape::Geometry;
+use std::io;
 use stripe::Checked;
 
-fn main() {
-    print(b"case", b"expected", b"got", b"ok");
-    field();
-    encoding();
-    rebuilding();
-    checking();
-    repairing();
-    refusing();
-    judging();
-    answering();
+fn main(rt: HostRuntime) -> io::Result<()> {
+    print(&rt, b"case", b"expected", b"got", b"ok")?;
+    field(&rt)?;
+    encoding(&rt)?;
+    rebuilding(&rt)?;
+    checking(&rt)?;
+    repairing(&rt)?;
+    refusing(&rt)?;
+    judging(&rt)?;
+    answering(&rt)
 }
 
-fn field() {
+fn field(rt: &impl Print) -> io::Result<()> {
     row(
+        rt,
         b"80 * 02",
         b"1d",
         byte(Element(0x80).product(Element(0x02))),
-    );
+    )?;
     row(
+        rt,
         b"8d * 02",
         b"07",
         byte(Element(0x8d).product(Element(0x02))),
-    );
-    row(b"02 to the power 12", b"cd", byte(Element(0x02).power(12)));
-    row(b"inverse of 02", b"8e", inverse(Element(0x02)));
-    row(b"inverse of 00", b"none", inverse(Element(0x00)));
-    row(b"logarithm of 10", b"4", logarithm(Element(0x10)));
-    row(b"logarithm of 00", b"none", logarithm(Element(0x00)));
+    )?;
+    row(
+        rt,
+        b"02 to the power 12",
+        b"cd",
+        byte(Element(0x02).power(12)),
+    )?;
+    row(rt, b"inverse of 02", b"8e", inverse(Element(0x02)))?;
+    row(rt, b"inverse of 00", b"none", inverse(Element(0x00)))?;
+    row(rt, b"logarithm of 10", b"4", logarithm(Element(0x10)))?;
+    row(rt, b"logarithm of 00", b"none", logarithm(Element(0x00)))
 }
 
-fn encoding() {
-    row(b"encode n=1: 5a", b"P 5a, Q 5a", encoded(&mut [0x5a, 0, 0]));
+fn encoding(rt: &impl Print) -> io::Result<()> {
     row(
+        rt,
+        b"encode n=1: 5a",
+        b"P 5a, Q 5a",
+        encoded(&mut [0x5a, 0, 0]),
+    )?;
+    row(
+        rt,
         b"encode n=3: 01 02 04",
         b"P 07, Q 15",
         encoded(&mut [1, 2, 4, 0, 0]),
-    );
+    )?;
     row(
+        rt,
         b"encode n=2: 01 80",
         b"P 81, Q 1c",
         encoded(&mut [1, 0x80, 0, 0]),
-    );
+    )?;
     row(
+        rt,
         b"encode n=255: all 01",
         b"P 01, Q 00",
         encoded(&mut [1u8; 257]),
-    );
+    )?;
     row(
+        rt,
         b"encode n=255: disk 254 is 01, the others 00",
         b"P 01, Q 8e",
         last_disk(),
-    );
-    row(b"encode n=256", b"refusal 1", encoded(&mut [1u8; 258]));
+    )?;
+    row(rt, b"encode n=256", b"refusal 1", encoded(&mut [1u8; 258]))?;
     row(
+        rt,
         b"encode n=2: 65,536 times 01 each",
         b"P 00, Q 03",
         large_block(65536),
-    );
+    )?;
     row(
+        rt,
         b"encode n=2: 65,537 times 01 each",
         b"refusal 2",
         large_block(65537),
-    );
+    )
 }
 
-fn rebuilding() {
+fn rebuilding(rt: &impl Print) -> io::Result<()> {
     row(
+        rt,
         b"write 80 to disk 1 of 01 02 04, P 07, Q 15",
         b"P 85, Q 0c",
         written(),
-    );
+    )?;
     row(
+        rt,
         b"lose disks 0 and 2 of 01 02 04, P 07, Q 15",
         b"01 and 04",
         two_lost(),
-    );
+    )
 }
 
-fn checking() {
+fn checking(rt: &impl Print) -> io::Result<()> {
     row(
+        rt,
         b"check 01 03 04, P 07, Q 15",
         b"verdict 17",
         verdict([1, 3, 4, 7, 0x15]),
-    );
+    )?;
     row(
+        rt,
         b"check 01 02 04, P 06, Q 1d",
         b"verdict 3",
         verdict([1, 2, 4, 6, 0x1d]),
-    );
+    )?;
     row(
+        rt,
         b"check 01 02 04, P 06, Q 17: both are wrong",
         b"verdict 17",
         verdict([1, 2, 4, 6, 0x17]),
-    );
+    )?;
     row(
+        rt,
         b"check n=8: column 5 disk 2, column 9 disk 7",
         b"summary 4",
         summary_with(79),
-    );
+    )?;
     row(
+        rt,
         b"check n=8: column 5 disk 2, column 9 disk 2",
         b"summary 18",
         summary_with(29),
-    );
+    )
 }
 
 // A stripe is written as its data, then P and Q. Disks 01 02 and 80 04 have P 81 06 and Q 1c 0a.
-fn repairing() {
+fn repairing(rt: &impl Print) -> io::Result<()> {
     row(
+        rt,
         b"repair n=2: 01028004 81061c0a, clean",
         b"01028004 81061c0a",
         repaired(2, 2, [0x01, 0x02, 0x80, 0x04, 0x81, 0x06, 0x1c, 0x0a]),
-    );
+    )?;
     row(
+        rt,
         b"repair n=2: 01028004 00061c0a, byte of P",
         b"01028004 81061c0a",
         repaired(2, 2, [0x01, 0x02, 0x80, 0x04, 0x00, 0x06, 0x1c, 0x0a]),
-    );
+    )?;
     row(
+        rt,
         b"repair n=2: 01028004 81061cff, byte of Q",
         b"01028004 81061c0a",
         repaired(2, 2, [0x01, 0x02, 0x80, 0x04, 0x81, 0x06, 0x1c, 0xff]),
-    );
+    )?;
     row(
+        rt,
         b"repair n=2: 01020004 81061c0a, byte of disk 1",
         b"01028004 81061c0a",
         repaired(2, 2, [0x01, 0x02, 0x00, 0x04, 0x81, 0x06, 0x1c, 0x0a]),
-    );
+    )?;
     row(
+        rt,
         b"repair n=2: ffff8004 81061c0a, all of disk 0",
         b"01028004 81061c0a",
         repaired(2, 2, [0xff, 0xff, 0x80, 0x04, 0x81, 0x06, 0x1c, 0x0a]),
-    );
+    )
 }
 
 // Numbers and length come before the summary: the last three rows have the bytes of the one above.
-fn refusing() {
+fn refusing(rt: &impl Print) -> io::Result<()> {
     let beyond = [0x01, 0x02, 0x80, 0x04, 0x80, 0x06, 0x18, 0x0a];
     row(
+        rt,
         b"repair n=2: 01028004 00061cff, summary 4",
         b"refusal 9",
         repaired(2, 2, [0x01, 0x02, 0x80, 0x04, 0x00, 0x06, 0x1c, 0xff]),
-    );
+    )?;
     row(
+        rt,
         b"repair n=2: 01028004 8006180a, summary 3",
         b"refusal 9",
         repaired(2, 2, beyond),
-    );
+    )?;
     row(
+        rt,
         b"repair n=0, B=0: 01028004 8006180a",
         b"refusal 1",
         repaired(0, 0, beyond),
-    );
+    )?;
     row(
+        rt,
         b"repair n=2, B=0: 01028004 8006180a",
         b"refusal 2",
         repaired(2, 0, beyond),
-    );
+    )?;
     row(
+        rt,
         b"repair n=2, B=3: 01028004 8006180a",
         b"refusal 3",
         repaired(2, 3, beyond),
-    );
+    )
 }
 
-fn judging() {
+fn judging(rt: &impl Print) -> io::Result<()> {
     let pair = bitmatrix::judge([identity(); 8], 2);
-    row(b"judge two identities", b"unfit, pair (0,1)", finding(pair));
+    row(
+        rt,
+        b"judge two identities",
+        b"unfit, pair (0,1)",
+        finding(pair),
+    )?;
     let set = bitmatrix::judge(first_set(), 8);
     row(
+        rt,
         b"judge row 1 of 004 with X_0",
         b"fit, 71 ones",
         finding(set),
-    );
+    )
 }
 
-fn answering() {
+fn answering(rt: &impl Print) -> io::Result<()> {
     row(
+        rt,
         b"job: 13 disks of 4,096",
         b"done",
         job_result(13, 4096, 14 + 15 * 4096),
-    );
+    )?;
     row(
+        rt,
         b"job: 14 disks of 4,096",
         b"refusal 20",
         job_result(14, 4096, 14 + 16 * 4096),
-    );
+    )?;
     row(
+        rt,
         b"job: 1 disk of 4,097",
         b"done",
         job_result(1, 4097, 14 + 3 * 4097),
-    );
+    )?;
     row(
+        rt,
         b"job: 12 disks of 4,097",
         b"done",
         job_result(12, 4097, 14 + 14 * 4097),
-    );
+    )?;
     row(
+        rt,
         b"job: 13 disks of 4,097",
         b"refusal 20",
         job_result(13, 4097, 14 + 15 * 4097),
-    );
+    )
 }
 
 // ---- the cases
@@ -359,7 +406,7 @@ fn repaired(n: usize, b: usize, s: [u8; 8]) -> [u8; 17] {
     if result == 0 {
         return blocks(after);
     }
-    if check::same(&after, &s) {
+    if after == s {
         return refusal(result);
     }
     *b"refused, changed "
@@ -477,11 +524,11 @@ fn hex(x: u8) -> u8 {
 
 // ---- the table
 
-fn row(case: &[u8], expected: &[u8], got: [u8; 17]) {
+fn row(rt: &impl Print, case: &[u8], expected: &[u8], got: [u8; 17]) -> io::Result<()> {
     if reads(&got, expected, b"                 ") {
-        print(case, expected, &got, b"yes");
+        print(rt, case, expected, &got, b"yes")
     } else {
-        print(case, expected, &got, b"NO");
+        print(rt, case, expected, &got, b"NO")
     }
 }
 
@@ -494,22 +541,23 @@ fn reads(text: &[u8], expected: &[u8], blank: &[u8]) -> bool {
     if blank.len() < n {
         return false;
     }
-    check::same(&text[0..n], expected) && check::same(&text[n..], &blank[n..])
+    text[0..n] == expected[..] && text[n..] == blank[n..]
 }
 
-fn print(case: &[u8], expected: &[u8], got: &[u8], ok: &[u8]) {
-    cell(case, b"                                               ");
-    cell(expected, b"                   ");
-    cell(got, b"                   ");
-    io::write_all(1, ok);
-    io::write_all(1, b"\n");
+fn print(rt: &impl Print, case: &[u8], expected: &[u8], got: &[u8], ok: &[u8]) -> io::Result<()> {
+    cell(rt, case, b"                                               ")?;
+    cell(rt, expected, b"                   ")?;
+    cell(rt, got, b"                   ")?;
+    rt.write_all(ok)?;
+    rt.write_all(b"\n")
 }
 
 // The text, with blanks up to the width of the column.
-fn cell(text: &[u8], blank: &[u8]) {
-    io::write_all(1, text);
+fn cell(rt: &impl Print, text: &[u8], blank: &[u8]) -> io::Result<()> {
+    rt.write_all(text)?;
     let n = text.len();
     if n < blank.len() {
-        io::write_all(1, &blank[n..]);
+        rt.write_all(&blank[n..])?;
     }
+    Ok(())
 }
