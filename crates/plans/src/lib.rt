@@ -90,7 +90,7 @@ fn over_power(x: usize) -> Element
 {
     match power_of_disk(x).inverse() {
         Inverse::Is(over) => over,
-        Inverse::None => never(),
+        Inverse::None => unreachable!(),
     }
 }
 
@@ -103,15 +103,7 @@ fn coefficients(x: usize, y: usize) -> Rule
     let ratio = power_of_disk(y).product(over_x);
     let scale = match ratio.sum(Element(1)).inverse() {
         Inverse::Is(scale) => scale,
-        Inverse::None => never(),
+        Inverse::None => unreachable!(),
     };
     Rule::Mixed(ratio.product(scale), over_x.product(scale))
-}
-
-// Nobody can call this: it closes the arm of an answer that is never none.
-fn never() -> Element
-    requires { ⊥ }
-    ensures { ⊥ }
-{
-    loop {}
 }

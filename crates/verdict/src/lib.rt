@@ -30,7 +30,7 @@ pub fn verdict_of(n: usize, p: Element, q: Element) -> u16
     }
     match p.inverse() {
         Inverse::Is(over_p) => located(n, q.product(over_p)),
-        Inverse::None => never(),
+        Inverse::None => unreachable!(),
     }
 }
 
@@ -46,16 +46,8 @@ fn located(n: usize, ratio: Element) -> u16
             }
             (16 + z) as u16
         }
-        Logarithm::None => never(),
+        Logarithm::None => unreachable!(),
     }
-}
-
-// Nobody can call this: it closes the arm of an answer that is never none.
-fn never() -> u16
-    requires { ⊥ }
-    ensures { ⊥ }
-{
-    loop {}
 }
 
 // The summary where unclean columns do not agree.

@@ -9,7 +9,6 @@ use Rattle.column.specs.Column.{over_power, ratio, divisor}
 use Rattle.column.proofs.ReedSolomon.{divisor_nonzero, coefficients_are}
 use Rattle.losses.specs.declared.Rule.TheVariants.{Mixed}
 use Rattle.plans.proofs.coefficients.Goals as goal
-use Rattle.plans.proofs.coefficients.Goals.{in-Is, in-None}
 
 -- what is divided by: it is the divisor of equations 17 and 18, and not 00
 module _ {x y : ℕ} {over power_y r s : Element} (low : x < 255) (high : y < 255) (other : x ≢ y) (over_is : over.0 ≡ over_power x) (power_is : power_y.0 ≡ power 2 y)
@@ -24,8 +23,8 @@ module _ {x y : ℕ} {over power_y r s : Element} (low : x < 255) (high : y < 25
   divided_by : s.0 ≢ 0
   divided_by = subst (λ (v : ℕ). v ≢ 0) (sym is_divisor) (divisor_nonzero x y low high other)
 
-pub never-scale-requires : goal.never-scale-requires
-never-scale-requires c =
+pub unreachable-requires : goal.unreachable-requires
+unreachable-requires c =
     let h = c.requires in
     divided_by h.0 h.1 h.2 c.over_power-over_x.ensures c.power_of_disk.ensures c.product-ratio.ensures c.sum.ensures ((inverse_none c.sum.result.0).0 (sym c.inverse.ensures ∙ c.in-None.is))
 
@@ -37,11 +36,8 @@ returns c =
     let other = divisor_nonzero x y h.0 h.1 h.2 in
     let some = divided_by h.0 h.1 h.2 c.over_power-over_x.ensures c.power_of_disk.ensures c.product-ratio.ensures c.sum.ensures in
     let divides = is_divisor h.0 h.1 h.2 c.over_power-over_x.ensures c.power_of_disk.ensures c.product-ratio.ensures c.sum.ensures in
-    let scale : c.match-inverse.scale.0 ≡ reciprocal (divisor x y) other =
-    elim c.match-inverse.branch [
-      | in-Is w ↦ ap (λ (e : Element). e.0) w.scale-is ∙ inverse_value c.sum.result.0 some (sym c.inverse.ensures ∙ w.in-Is.is) ∙ ap (λ (v : ℕ). power v 254) divides
-      | in-None w ↦ absurd w.never-scale.ensures
-    ] in
+    let scale : c.in-Is.scale.0 ≡ reciprocal (divisor x y) other =
+    inverse_value c.sum.result.0 some (sym c.inverse.ensures ∙ c.in-Is.is) ∙ ap (λ (v : ℕ). power v 254) divides in
     rw (coefficients_are x y other)
     (ap₂ (λ (a b : ℕ). Mixed (element a) (element b))
     (c.product.ensures ∙ ap₂ product (is_ratio h.0 h.1 h.2 c.over_power-over_x.ensures c.power_of_disk.ensures c.product-ratio.ensures c.sum.ensures) scale)

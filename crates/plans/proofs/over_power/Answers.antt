@@ -6,10 +6,10 @@ use Rattle.gf256.specs.Field.{power}
 use Rattle.gf256.proofs.Laws.{power_of_two_nonzero, inverse_value, inverse_none}
 use Rattle.plans.proofs.over_power.Goals as goal
 
-pub never-requires : goal.never-requires
-never-requires c = (subst (λ (v : ℕ). v ≢ 0) (sym c.power_of_disk.ensures) (power_of_two_nonzero c.args.x)) ((inverse_none c.power_of_disk.result.0).0 (sym c.inverse.ensures ∙ c.in-None.is))
+pub unreachable-requires : goal.unreachable-requires
+unreachable-requires c = (subst (λ (v : ℕ). v ≢ 0) (sym c.power_of_disk.ensures) (power_of_two_nonzero c.args.x)) ((inverse_none c.power_of_disk.result.0).0 (sym c.inverse.ensures ∙ c.in-None.is))
 
-pub returns-in-Is : goal.returns-in-Is
-returns-in-Is c =
+pub returns : goal.returns
+returns c =
     inverse_value c.power_of_disk.result.0 (subst (λ (v : ℕ). v ≢ 0) (sym c.power_of_disk.ensures) (power_of_two_nonzero c.args.x)) (sym c.inverse.ensures ∙ c.in-Is.is)
     ∙ ap (λ (v : ℕ). power v 254) c.power_of_disk.ensures

@@ -14,8 +14,8 @@ overflow_add-result c = omega (arith, (logarithm_exponent c.args.ratio.0 (omega 
 pub overflow_cast-result : goal.overflow_cast-result
 overflow_cast-result c = omega (arith, (logarithm_exponent c.args.ratio.0 (omega arith) (sym c.logarithm.ensures ∙ c.in-Is.is)).below)
 
-pub never-requires : goal.never-requires
-never-requires c = c.requires ((logarithm_none c.args.ratio.0 (omega arith)).0 (sym c.logarithm.ensures ∙ c.in-None.is))
+pub unreachable-requires : goal.unreachable-requires
+unreachable-requires c = c.requires ((logarithm_none c.args.ratio.0 (omega arith)).0 (sym c.logarithm.ensures ∙ c.in-None.is))
 
-pub returns-else-n-z : goal.returns-else-n-z
-returns-else-n-z c = sym (ap located (exponent_within (logarithm_exponent c.args.ratio.0 (omega arith) (sym c.logarithm.ensures ∙ c.in-Is.is)) c.if-n-z.false))
+pub returns : goal.returns
+returns c = sym (ap located (exponent_within (logarithm_exponent c.args.ratio.0 (omega arith) (sym c.logarithm.ensures ∙ c.in-Is.is)) c.if-n-z.false))

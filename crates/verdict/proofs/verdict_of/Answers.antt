@@ -34,12 +34,12 @@ located-requires c e =
     let some = c.if-p-eq0.false in
     quotient_nonzero q p (omega arith) (omega arith) c.if-q-eq0-2.false some (sym (is_quotient q p some c.product.ensures c.inverse.ensures c.in-Is.is) ∙ e)
 
-pub never-requires : goal.never-requires
-never-requires c = c.if-p-eq0.false ((inverse_none c.args.p.0).0 (sym c.inverse.ensures ∙ c.in-None.is))
+pub unreachable-requires : goal.unreachable-requires
+unreachable-requires c = c.if-p-eq0.false ((inverse_none c.args.p.0).0 (sym c.inverse.ensures ∙ c.in-None.is))
 
 -- the last row
-pub returns-in-Is : goal.returns-in-Is
-returns-in-Is c =
+pub returns : goal.returns
+returns c =
     let n = c.args.n in
     let p = c.args.p.0 in
     let q = c.args.q.0 in
