@@ -126,6 +126,7 @@ pub fn no_devices(first: usize, second: usize) -> bool
     second == 65535
 }
 
+#[tactic(auto, unfolding(crate::specs::Codes::named_by))]
 fn decode(code: usize) -> Named
     ensures { result ≡ named_by code }
 {

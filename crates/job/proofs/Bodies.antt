@@ -3,10 +3,10 @@
 use mathlib.Core.Path.{◌≡◌, refl, sym, ap, ◌∙◌}
 use mathlib.Core.Bool.{false}
 use mathlib.Core.List.{List, [], ◌∷◌}
-use Prim.Native.Nat.{ℕ, ◌+◌, ◌*◌}
+use Prim.Native.Nat.{ℕ, ◌+◌, ◌*◌, ◌-◌}
 use native.Mathlib.Omega.{arith}
 use native.Mathlib.Decide.{ℕ_discrete}
-use lib.ListN.{length}
+use lib.ListN.{length, take, drop}
 use Rattle.column.specs.declared.Lost.{Lost}
 use Rattle.shape.specs.declared.Geometry.{Geometry}
 use Rattle.devices.specs.declared.Naming.{Naming}
@@ -21,6 +21,7 @@ use Rattle.compare.specs.Repair.{refusal9, repair_refusal}
 use Rattle.stripe.proofs.Repairs.{repaired_long}
 use Rattle.shape.proofs.Places.{length_lift}
 use Rattle.base.proofs.Refused.{first_passed, left_done}
+use Rattle.base.proofs.Tails.{tail}
 use Rattle.header.specs.Header.{command_of, geometry_of, loss_named, stripe_of}
 use Rattle.devices.specs.Codes.{misnamed, named_twice}
 use Rattle.report.specs.Report.{report}
@@ -57,6 +58,10 @@ module _ (job : List ℕ) where
 
   pub length_check : command_of job ≡ 3 → length (body job) ≡ 2 + 2 * g.b
   length_check e = ap length (body_check e) ∙ length_report g s
+
+  -- the same of the stripe as the code lends it
+  pub check_done : command_of job ≡ 3 → body job ≡ report (verdicts g (take (length job - 14) (drop 14 job)))
+  check_done e = body_check e ∙ ap (λ (l : List ℕ). report (verdicts g l)) (sym (tail 14 job))
 
   module _ (ok : Accepted job) where
     pub other : (command_of job ≡ 1 → ⊥) → (command_of job ≡ 2 → ⊥) → (command_of job ≡ 3 → ⊥) → command_of job ≡ 4

@@ -57,6 +57,7 @@ fn respond(job: &[u8], res: u8, out: &mut [u8])
 }
 
 // What follows the six bytes. The calls are not refused: the job's own tests passed.
+#[tactic(auto, using(crate::proofs::Bodies::check_done))]
 fn run(job: &[u8], out: &mut [u8])
     requires { (job_refusal job.now ≡ 0) × (length out.old ≡ length (body job.now)) }
     ensures { out.new ≡ body job.now }

@@ -16,6 +16,7 @@ use gf256::{Element, Inverse, Logarithm};
 
 // The four rows of the paper's table, and equation 27. Neither P* nor Q* is 00 where they are divided,
 // so P* has an inverse and the quotient a logarithm.
+#[tactic(auto, using(column::proofs::Verdicts::row_clean, column::proofs::Verdicts::row_p, column::proofs::Verdicts::row_q))]
 pub fn verdict_of(n: usize, p: Element, q: Element) -> u16
     ensures { result ≡ verdict_of n p.0 q.0 }
 {

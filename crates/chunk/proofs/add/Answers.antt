@@ -1,4 +1,4 @@
--- `chunk::add` meets its contract. The loop's invariant: the places below j are summed. The measure is what is left.
+-- `chunk::add` meets its contract.
 use native.Mathlib.Omega.{arith}
 use Rattle.base.proofs.Fill.{fill_all}
 use Rattle.chunk.proofs.add.Goals as goal

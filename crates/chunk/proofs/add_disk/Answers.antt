@@ -1,4 +1,4 @@
--- `chunk::add_disk` meets its contract. The loop's invariant: the places below i are summed. The measure is what is left.
+-- `chunk::add_disk` meets its contract.
 use native.Mathlib.Omega.{arith}
 use Rattle.base.proofs.Fill.{fill_all}
 use Rattle.chunk.proofs.add_disk.Goals as goal

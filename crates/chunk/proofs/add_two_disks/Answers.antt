@@ -1,4 +1,4 @@
--- `chunk::add_two_disks` meets its contract. The loop's invariant: in the places below j both disks are summed. The measure is what is left.
+-- `chunk::add_two_disks` meets its contract.
 use mathlib.Core.Path.{refl, sym, ap, ap₂, ◌∙◌}
 use native.Mathlib.Omega.{arith}
 use Rattle.gf256.specs.Field.{sum, double}

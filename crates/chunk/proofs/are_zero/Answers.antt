@@ -1,4 +1,4 @@
--- `chunk::are_zero` meets its contract. The loop's invariant: r is 0 just where the places below j hold 0. The measure is what is left.
+-- `chunk::are_zero` meets its contract.
 use mathlib.Core.Path.{refl}
 use native.Mathlib.Numerals.{add-one}
 use native.Mathlib.Omega.{arith}

@@ -1,4 +1,4 @@
--- `chunk::copy` meets its contract. The loop's invariant: the places below j are copied. The measure is what is left.
+-- `chunk::copy` meets its contract.
 use native.Mathlib.Omega.{arith}
 use borrow.Author.Tests.{le-ltb}
 use Rattle.base.proofs.Fill.{fill_rest}

@@ -1,4 +1,4 @@
--- `compare::check_columns` meets its contract. The loop's invariant: found is the summary of the first i verdicts, and they are given, if they are
+-- `compare::check_columns` meets its contract.
 use Prim.Native.Nat.{◌-◌}
 use native.Mathlib.Omega.{arith}
 use Rattle.chunk.specs.Chunk.{width}

@@ -1,4 +1,5 @@
 -- `compare::check_columns` meets its contract. The loop's invariant: found is the summary of the first i verdicts, and they are given, if they are
+-- kept. The measure is what is left.
 use Prim.Native.Nat.{◌-◌}
 use Rattle.compare.proofs.CheckedBelow.{CheckedBelow}
 use Rattle.compare.proofs.check_columns.Given as goal

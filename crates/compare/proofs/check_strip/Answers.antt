@@ -1,4 +1,4 @@
--- `compare::check_strip` meets its contract. The loop's invariant: the verdicts of the first m chunks are given, and found is their summary. The
+-- `compare::check_strip` meets its contract.
 use mathlib.Core.Path.{◌≡◌, ap, ap₂, sym, ◌∙◌, subst}
 use Prim.Native.Nat.{ℕ, ◌+◌, ◌*◌, ◌-◌, ◌≤◌}
 use native.Mathlib.Omega.{arith}

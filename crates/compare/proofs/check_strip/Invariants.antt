@@ -1,4 +1,5 @@
 -- `compare::check_strip` meets its contract. The loop's invariant: the verdicts of the first m chunks are given, and found is their summary. The
+-- measure is what is left of the chunks.
 use Prim.Native.Nat.{◌+◌, ◌*◌, ◌-◌, ◌≤◌}
 use Rattle.chunk.specs.Chunk.{width}
 use Rattle.column.specs.Column.{verdict}

@@ -1,4 +1,4 @@
--- `compare::check_strips` meets its contract. The loop's invariant: found is the summary of the first `done` verdicts, and they are given, if they are
+-- `compare::check_strips` meets its contract.
 use Prim.Native.Nat.{◌+◌, ◌≤◌, ◌<◌}
 use native.Mathlib.Omega.{arith}
 use lib.ListN.{length}

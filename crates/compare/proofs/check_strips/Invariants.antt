@@ -1,4 +1,5 @@
 -- `compare::check_strips` meets its contract. The loop's invariant: found is the summary of the first `done` verdicts, and they are given, if they are
+-- kept. The measure is what is left.
 use Prim.Native.Nat.{◌-◌}
 use Rattle.compare.proofs.CheckedBelow.{CheckedBelow}
 use Rattle.compare.proofs.check_strips.Given as goal

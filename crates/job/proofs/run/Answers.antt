@@ -9,10 +9,8 @@ use Rattle.shape.specs.Refusals.{encode_refusal}
 use Rattle.stripe.specs.Calls.{after_encode, rebuilt_by, after_repair}
 use Rattle.devices.specs.Codes.{naming_of}
 use Rattle.header.specs.Header.{geometry_of, stripe_of}
-use Rattle.report.specs.Report.{report}
-use Rattle.compare.specs.Compare.{verdicts}
 use Rattle.header.proofs.Accepted.{accepted, columns_most}
-use Rattle.job.proofs.Bodies.{length_stripe, other, body_check, length_check, encode_done, rebuild_done, repair_done}
+use Rattle.job.proofs.Bodies.{length_stripe, other, length_check, encode_done, rebuild_done, repair_done}
 use Rattle.base.proofs.Tails.{tail}
 use Rattle.job.proofs.run.Goals as goal
 
@@ -31,18 +29,11 @@ check-requires c =
     let job = c.args.job.now in (
       ap₂ (λ (g : Geometry) (l : List ℕ). encode_refusal g (length l)) is (tail 14 job) ∙ (accepted c.args.job.now c.requires.0).shape,
       rw is (columns_most (accepted c.args.job.now c.requires.0)),
-      c.requires.1 ∙ length_check job c.if-command-eq3.true ∙ ap (λ (g : Geometry). 2 + 2 * g.b) (sym is),
+      c.requires.1 ∙ length_check job (omega arith) ∙ ap (λ (g : Geometry). 2 + 2 * g.b) (sym is),
     )
 
-pub returns-then-command-eq3 : goal.returns-then-command-eq3
-returns-then-command-eq3 c =
-    let job = c.args.job.now in
-    c.check.ensures
-    ∙ ap₂ (λ (g : Geometry) (l : List ℕ). report (verdicts g l)) c.geometry-g.ensures (tail 14 job)
-    ∙ sym (body_check job c.if-command-eq3.true)
-
 pub copy_from_slice-requires : goal.copy_from_slice-requires
-copy_from_slice-requires c = omega (arith, (c.requires.1 ∙ length_stripe c.args.job.now (accepted c.args.job.now c.requires.0) c.if-command-eq3.false), ap length (tail 14 c.args.job.now))
+copy_from_slice-requires c = omega (arith, (c.requires.1 ∙ length_stripe c.args.job.now (accepted c.args.job.now c.requires.0) (omega arith)), ap length (tail 14 c.args.job.now))
 
 -- the calls work on the stripe that was copied
 pub returns-then-command-eq1 : goal.returns-then-command-eq1
@@ -65,7 +56,7 @@ returns-then-command-eq2 c =
 pub returns : goal.returns
 returns c =
     let job = c.args.job.now in
-    let last = other job (accepted c.args.job.now c.requires.0) c.if-command-eq1.false c.if-command-eq2.false c.if-command-eq3.false in
+    let last = other job (accepted c.args.job.now c.requires.0) (omega arith) (omega arith) (omega arith) in
     c.repair.ensures.stripe
     ∙ ap₂ after_repair c.geometry-g.ensures (c.copy_from_slice.ensures.after ∙ tail 14 job)
     ∙ repair_done job (accepted c.args.job.now c.requires.0) last

@@ -1,4 +1,4 @@
--- `products::add_bits` meets its contract. The loop's invariant: the places below j are doubled, with the bits' parts. The measure is what is left.
+-- `products::add_bits` meets its contract.
 use native.Mathlib.Omega.{arith}
 use Rattle.base.proofs.Fill.{fill_all}
 use Rattle.products.proofs.add_bits.Goals as goal

@@ -1,4 +1,4 @@
--- `products::add_product` meets its contract. The loop's invariant: at every place a + c x is what it was. The measure is c.
+-- `products::add_product` meets its contract.
 use mathlib.Core.Path.{◌≡◌, sym, ap, ◌∙◌}
 use Prim.Native.Nat.{ℕ, ◌/◌, ◌<◌}
 use native.Mathlib.Omega.{arith}

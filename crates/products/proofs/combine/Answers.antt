@@ -1,4 +1,4 @@
--- `products::combine` meets its contract. The loop's invariant: d is the sum of the products by the digits from k on. The measure is k.
+-- `products::combine` meets its contract.
 use mathlib.Core.Path.{◌≡◌, refl, sym, ap, ap₂, ◌∙◌}
 use mathlib.Core.List.{List}
 use Prim.Native.Nat.{ℕ, ◌+◌, ◌-◌, ◌/◌, ◌%◌, ◌^◌}

@@ -1,4 +1,4 @@
--- `products::double` meets its contract. The loop's invariant: the places below j are doubled. The measure is what is left.
+-- `products::double` meets its contract.
 use native.Mathlib.Omega.{arith}
 use Rattle.base.proofs.Fill.{fill_all}
 use Rattle.products.proofs.double.Goals as goal

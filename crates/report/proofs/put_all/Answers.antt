@@ -1,4 +1,4 @@
--- `report::put_all` meets its contract. The loop's invariant: the first i fields are stored. The measure is what is left of the numbers.
+-- `report::put_all` meets its contract.
 use Prim.Native.Nat.{ℕ, ◌+◌, ◌*◌}
 use mathlib.Core.Path.{refl, ap₂, ◌∙◌}
 use mathlib.Core.List.{List}

@@ -1,4 +1,4 @@
--- `restore::columns_by_p` meets its contract. The loop's invariant: the first `done` columns are restored. The measure is what is left.
+-- `restore::columns_by_p` meets its contract.
 use native.Mathlib.Omega.{arith}
 use Rattle.restore.proofs.Laws.{begun_next, begun_all}
 use Rattle.restore.proofs.columns_by_p.Goals as goal

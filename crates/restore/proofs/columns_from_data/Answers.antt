@@ -1,4 +1,4 @@
--- `restore::columns_from_data` meets its contract. The loop's invariant: the first `done` columns are restored. The measure is what is left.
+-- `restore::columns_from_data` meets its contract.
 use native.Mathlib.Omega.{arith}
 use Rattle.restore.proofs.Laws.{begun_next, begun_all}
 use Rattle.restore.proofs.columns_from_data.Goals as goal

@@ -1,4 +1,4 @@
--- `restore::restore_strip` meets its contract. The loop's invariant: the first m chunks are restored. What p and q hold is of the columns as they
+-- `restore::restore_strip` meets its contract.
 use mathlib.Core.Path.{◌≡◌, refl, sym, ap, ◌∙◌}
 use mathlib.Core.Logic.{inr}
 use Prim.Native.Nat.{ℕ, ◌+◌, ◌*◌, ◌≤◌, ◌<◌}

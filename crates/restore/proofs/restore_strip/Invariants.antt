@@ -1,4 +1,5 @@
 -- `restore::restore_strip` meets its contract. The loop's invariant: the first m chunks are restored. What p and q hold is of the columns as they
+-- were; those that are still to come have not changed. The measure is what is left of the chunks.
 use Prim.Native.Nat.{◌*◌, ◌-◌, ◌≤◌}
 use Rattle.chunk.specs.Chunk.{width}
 use Rattle.losses.specs.Losses.{solved}

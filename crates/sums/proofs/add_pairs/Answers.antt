@@ -1,4 +1,4 @@
--- `sums::add_pairs` meets its contract. The loop's invariant: the disks from k on are added, and `at` is column i of disk k's block.
+-- `sums::add_pairs` meets its contract.
 use borrow.Author.Rules.{elem_Fits}
 use mathlib.Core.Path.{◌≡◌, refl}
 use Prim.Native.Nat.{ℕ, ◌+◌, ◌-◌, ◌≤◌}

@@ -1,4 +1,4 @@
--- `sums::add_to_strip` meets its contract. The loop's invariant: in the first m chunks the group is added. The measure is what is left of them.
+-- `sums::add_to_strip` meets its contract.
 use mathlib.Core.Path.{◌≡◌, sym, ap, ◌∙◌}
 use Prim.Native.Nat.{ℕ, ◌+◌, ◌*◌, ◌≤◌, ◌<◌}
 use native.Mathlib.Omega.{arith}

@@ -1,4 +1,4 @@
--- `sums::begin_page` meets its contract. The loop's invariant: the pass is made over the first m chunks. The measure is what is left of them.
+-- `sums::begin_page` meets its contract.
 use native.Mathlib.Omega.{arith}
 use Rattle.sums.proofs.Passes.{page_next}
 use Rattle.sums.proofs.begin_page.Goals as goal

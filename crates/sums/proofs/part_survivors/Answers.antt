@@ -1,4 +1,4 @@
--- `sums::part_survivors` meets its contract. The loop's invariant: the disks from k on are added, lost ones as 00.
+-- `sums::part_survivors` meets its contract.
 use borrow.Author.Rules.{elem_Fits}
 use mathlib.Core.Path.{◌≡◌, sym, ◌∙◌}
 use native.Mathlib.Omega.{arith}

@@ -1,4 +1,4 @@
--- `sums::set_page` meets its contract. The loop's invariant: from the sums of the first pass those over the disks from `to` on are made. The measure is `to`.
+-- `sums::set_page` meets its contract.
 use mathlib.Core.Path.{◌≡◌}
 use native.Mathlib.Omega.{arith}
 use Rattle.sums.proofs.Passes.{passed_on, passed_all}

@@ -1,4 +1,4 @@
--- `sums::set_parities` meets its contract. The loop's invariant: the first m pages are encoded. The measure is what is left of them.
+-- `sums::set_parities` meets its contract.
 use mathlib.Core.Path.{sym, ◌∙◌}
 use native.Mathlib.Omega.{arith}
 use Rattle.shape.proofs.Refused.{well_shaped}

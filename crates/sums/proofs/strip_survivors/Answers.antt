@@ -1,4 +1,4 @@
--- `sums::strip_survivors` meets its contract. The loop's invariant: the disks from `to` on are added, lost ones as 00.
+-- `sums::strip_survivors` meets its contract.
 use mathlib.Core.Path.{sym, ◌∙◌}
 use native.Mathlib.Omega.{arith}
 use Rattle.sums.proofs.Strips.{has_strip_lem, stage_none}

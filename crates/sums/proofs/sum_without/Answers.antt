@@ -1,22 +1,39 @@
--- `sums::sum_without` meets its contract. The loop's invariant: in every column, p is the sum over the roles below k without x.
+-- `sums::sum_without` meets its contract.
 use mathlib.Core.Path.{◌≡◌, sym, ap, ap₂, ◌∙◌}
+use mathlib.Core.Logic.{◌≢◌}
 use mathlib.Core.List.{List}
-use Prim.Native.Nat.{ℕ, ◌<◌}
+use Prim.Native.Nat.{ℕ, ◌+◌}
 use native.Mathlib.Numerals.{add-one}
 use native.Mathlib.Omega.{arith}
 use lib.ListN.{get_or}
 use Rattle.base.proofs.Table.{tabulate_same}
 use Rattle.gf256.specs.Field.{sum}
 use Rattle.gf256.proofs.Laws.{sum_zero}
-use Rattle.chunk.specs.Chunk.{width}
+use Rattle.chunk.specs.Chunk.{width, each, plus}
 use Rattle.chunk.proofs.Laws.{each_at}
-use Rattle.column.specs.Column.{put, total}
+use Rattle.column.specs.Column.{Column, put, total}
 use Rattle.column.proofs.Put.{put_same, put_other}
 use Rattle.stretch.specs.Stretch.{column_of}
 use Rattle.stretch.proofs.Laws.{zeros}
 use Rattle.sums.proofs.Zeros.{no_sum}
 use Rattle.sums.proofs.sum_without.Goals as goal
-use Rattle.sums.proofs.sum_without.Goals.{then-k-x, else-k-x}
+
+-- one more role, and the role that is left out
+module _ (x k : ℕ) (f : ℕ → Column) {p : List ℕ} (is : p ≡ each (λ j. total k (put x 0 (f j)))) where
+  added : k ≢ x → plus p (each (λ j. f j k)) ≡ each (λ j. total (k + 1) (put x 0 (f j)))
+  unfolding total
+  added other =
+      tabulate_same width
+      (λ j h.
+      ap₂ sum (ap (λ (l : List ℕ). get_or l j 0) is ∙ each_at _ j h) (each_at _ j h ∙ sym (put_other x 0 (f j) k other))
+      ∙ sym (rw (add-one k)))
+
+  left_out : k ≡ x → p ≡ each (λ j. total (k + 1) (put x 0 (f j)))
+  unfolding total
+  left_out same =
+      is
+      ∙ tabulate_same width
+      (λ j h. sym (ap (sum (total k (put x 0 (f j)))) (ap (put x 0 (f j)) same ∙ put_same x 0 (f j)) ∙ sum_zero _) ∙ sym (rw (add-one k)))
 
 pub returns-then-not-has_columns : goal.returns-then-not-has_columns
 returns-then-not-has_columns c = let a = c.args in no_sum a.g a.stripe.now a.i a.w (sym c.has_columns.ensures ∙ c.if-not-has_columns.true) a.g.n a.x
@@ -26,25 +43,8 @@ unfolding total
 loop-k-init c = (omega arith, zeros)
 
 pub loop-k-preserved : goal.loop-k-preserved
-unfolding total
 loop-k-preserved c =
     let a = c.args in
     let l = c.loop-k in
     let e = column_of a.g a.stripe.now a.i a.w in
-    let before : (j : ℕ) → j < width → get_or l.p j 0 ≡ total l.k (put a.x 0 (e j)) = λ j h. ap (λ (p : List ℕ). get_or p j 0) l.invariant.1 ∙ each_at _ j h in (
-      omega arith,
-      elim c.if-k-x.branch [
-        | then-k-x w ↦
-            w.p-is
-            ∙ w.add.ensures
-            ∙ tabulate_same width
-            (λ j h.
-            ap₂ sum (before j h) (ap (λ (d : List ℕ). get_or d j 0) w.load-d.ensures ∙ each_at _ j h ∙ sym (put_other a.x 0 (e j) l.k w.if-k-x.true)))
-        | else-k-x w ↦
-            w.p-is
-            ∙ l.invariant.1
-            ∙ tabulate_same width
-            (λ j h. sym (ap (sum (total l.k (put a.x 0 (e j)))) (ap (put a.x 0 (e j)) w.if-k-x.false ∙ put_same a.x 0 (e j)) ∙ sum_zero _))
-      ]
-          ∙ tabulate_same width (λ j h. sym (rw (add-one l.k))),
-    )
+    (omega arith, grind (arith, added a.x l.k e l.invariant.1, left_out a.x l.k e l.invariant.1))

@@ -1,4 +1,4 @@
--- `verdict::fill_unclean` meets its contract. The loop's invariant: the places below j are filled. The measure is what is left.
+-- `verdict::fill_unclean` meets its contract.
 use mathlib.Core.Path.{◌≡◌}
 use native.Mathlib.Omega.{arith}
 use borrow.Author.Tests.{eq-eqb, ne_eqb}

@@ -1,4 +1,4 @@
--- `verdict::fill_zero` meets its contract. The loop's invariant: the places below i hold 0. The measure is what is left.
+-- `verdict::fill_zero` meets its contract.
 use native.Mathlib.Omega.{arith}
 use Rattle.base.proofs.Fill.{fill_all}
 use Rattle.verdict.proofs.fill_zero.Goals as goal

@@ -1,4 +1,4 @@
--- `verdict::one_by_one` meets its contract. The loop's invariant: the places below j hold their verdicts, and `found` is their
+-- `verdict::one_by_one` meets its contract.
 use mathlib.Core.Path.{refl}
 use native.Mathlib.Omega.{arith}
 use Rattle.verdict.proofs.Summary.{summary_filled_none, summary_filled_more, summary_filled_all}

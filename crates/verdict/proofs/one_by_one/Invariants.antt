@@ -1,4 +1,5 @@
 -- `verdict::one_by_one` meets its contract. The loop's invariant: the places below j hold their verdicts, and `found` is their
+-- summary. The measure is what is left of the room.
 use Prim.Native.Nat.{◌-◌, ◌≤◌}
 use lib.ListN.{length}
 use Rattle.verdict.specs.Verdicts.{verdict_at}

@@ -1,5 +1,5 @@
 -- `verdict::verdict_of` meets its contract: each `return` is the row of the tests that led there, and the arm of none is not reached.
-use mathlib.Core.Path.{◌≡◌, sym, ap, ap₂, ◌∙◌}
+use mathlib.Core.Path.{◌≡◌, sym, ap, ◌∙◌}
 use mathlib.Core.Logic.{◌≢◌}
 use Prim.Native.Nat.{ℕ}
 use native.Mathlib.Omega.{arith}
@@ -8,34 +8,25 @@ use Rattle.gf256.specs.declared.Inverse.{Inverse}
 use Rattle.gf256.specs.declared.Inverse.TheVariants.{Is as InverseIs}
 use Rattle.gf256.specs.Field.{product, inverse, quotient, first_exponent}
 use Rattle.gf256.proofs.Laws.{quotient_nonzero, inverse_value, inverse_none}
-use Rattle.column.specs.Column.{located, verdict_of}
-use Rattle.column.proofs.Verdicts.{row_clean, row_p, row_q, row_both}
+use Rattle.column.specs.Column.{located}
+use Rattle.column.proofs.Verdicts.{row_both}
 use Rattle.verdict.proofs.verdict_of.Goals as goal
 
 -- equation 26
 is_quotient : (q p : ℕ) (some : p ≢ 0) {r : ℕ} {over : Element} {found : Inverse} → r ≡ product q over.0 → found ≡ inverse p → found ≡ InverseIs over → r ≡ quotient q p some
 is_quotient q p some made asked is = made ∙ ap (product q) (inverse_value p some (sym asked ∙ is))
 
-pub returns-then-q-eq0 : goal.returns-then-q-eq0
-returns-then-q-eq0 c = sym (ap₂ (verdict_of _) c.if-p-eq0.true c.if-q-eq0.true ∙ row_clean _)
-
-pub returns-then-p-eq0 : goal.returns-then-p-eq0
-returns-then-p-eq0 c =
-    let a = c.args in
-    sym (ap (λ (p : ℕ). verdict_of a.n p a.q.0) c.if-p-eq0.true ∙ row_q a.n a.q.0 c.if-q-eq0.false)
-
-pub returns-then-q-eq0-2 : goal.returns-then-q-eq0-2
-returns-then-q-eq0-2 c = sym (ap (verdict_of _ _) c.if-q-eq0-2.true ∙ row_p _ _ c.if-p-eq0.false)
-
 pub located-requires : goal.located-requires
 located-requires c e =
     let p = c.args.p.0 in
     let q = c.args.q.0 in
-    let some = c.if-p-eq0.false in
-    quotient_nonzero q p (omega arith) (omega arith) c.if-q-eq0-2.false some (sym (is_quotient q p some c.product.ensures c.inverse.ensures c.in-Is.is) ∙ e)
+    let some : p ≢ 0 = omega arith in
+    quotient_nonzero q p (omega arith) (omega arith) (omega arith) some (sym (is_quotient q p some c.product.ensures c.inverse.ensures c.in-Is.is) ∙ e)
 
 pub unreachable-requires : goal.unreachable-requires
-unreachable-requires c = c.if-p-eq0.false ((inverse_none c.args.p.0).0 (sym c.inverse.ensures ∙ c.in-None.is))
+unreachable-requires c =
+    let some : c.args.p.0 ≢ 0 = omega arith in
+    some ((inverse_none c.args.p.0).0 (sym c.inverse.ensures ∙ c.in-None.is))
 
 -- the last row
 pub returns : goal.returns
@@ -43,7 +34,7 @@ returns c =
     let n = c.args.n in
     let p = c.args.p.0 in
     let q = c.args.q.0 in
-    let some = c.if-p-eq0.false in
+    let some : p ≢ 0 = omega arith in
     c.located.ensures
     ∙ ap (λ (v : ℕ). located (first_exponent v 0 n)) (is_quotient q p some c.product.ensures c.inverse.ensures c.in-Is.is)
-    ∙ sym (row_both n p q some c.if-q-eq0-2.false)
+    ∙ sym (row_both n p q some (omega arith))

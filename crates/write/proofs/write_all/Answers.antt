@@ -1,4 +1,4 @@
--- `write::write_all` meets its contract. The loop's invariant: the j columns from the offset on are written. The measure is what is left.
+-- `write::write_all` meets its contract.
 use Prim.Native.Nat.{◌+◌}
 use native.Mathlib.Omega.{arith}
 use lib.ListN.{length}
