@@ -23,7 +23,7 @@ use sums::{CHUNKS, STRIP};
 pub fn compare(g: Geometry, stripe: &[u8], room: &mut [u16]) -> u16
     ensures { CompareCall g stripe.now room.old result room.new }
 {
-    if shape::check_refusal(g, stripe.len(), room.len()) != 0 {
+    if shape::check_refusal(g, stripe.len(), room.len()).is_err() {
         return 0;
     }
     check_into(g, stripe, room, true)
@@ -33,7 +33,7 @@ pub fn compare(g: Geometry, stripe: &[u8], room: &mut [u16]) -> u16
 pub fn summary_of(g: Geometry, stripe: &[u8]) -> u16
     ensures { result ≡ summary_of g stripe.now }
 {
-    if shape::encode_refusal(g, stripe.len()) != 0 {
+    if shape::encode_refusal(g, stripe.len()).is_err() {
         return 0;
     }
     let mut room = [0u16; STRIP];

@@ -15,7 +15,7 @@ use stripe::Checked;
 pub fn check(g: Geometry, stripe: &[u8], room: &mut [u16], out: &mut [u8])
     ensures { ReportCall g stripe.now room.old out.old room.new out.new }
 {
-    if shape::check_refusal(g, stripe.len(), room.len()) != 0 {
+    if shape::check_refusal(g, stripe.len(), room.len()).is_err() {
         return;
     }
     if out.len() != 2 + 2 * g.b {

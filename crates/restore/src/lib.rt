@@ -24,7 +24,7 @@ use sums::{CHUNKS, STRIP, Sums};
 pub fn restore(g: Geometry, stripe: &mut [u8], plan: Plan)
     ensures { stripe.new ≡ restored g plan stripe.old }
 {
-    if shape::encode_refusal(g, stripe.len()) != 0 {
+    if shape::encode_refusal(g, stripe.len()).is_err() {
         return;
     }
     if !parts::has_roles(g.n, plan) {

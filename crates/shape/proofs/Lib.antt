@@ -1,4 +1,5 @@
 pub mod Places
+pub mod Numbers
 pub mod Refused
 pub mod Accepts
 pub mod Columns

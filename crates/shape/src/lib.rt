@@ -4,6 +4,7 @@
 
 ghost use Rattle.std.specs.Prelude.{◌≡◌};
 ghost use Rattle.base.specs.Refusal.{first_of};
+ghost use Rattle.shape.specs.Number.{number_of, number};
 ghost use Rattle.shape.specs.Layout.{low_start, place_before};
 ghost use Rattle.shape.specs.Refusals.{library, limits_refusals, shape_refusals, stretch_refusals, encode_refusal, write_refusal, check_refusal};
 
@@ -39,7 +40,38 @@ impl Geometry {
     }
 }
 
-// ---- refusals; 0 where none applies
+// Why a call on a stripe is refused. A refusal's number is the one that C and a job's answer give.
+#[derive(Clone, Copy, PartialEq, Eq)]
+pub enum Refusal {
+    Disks = 1,
+    BlockSize = 2,
+    Length = 3,
+    Device = 4,
+    SameDevice = 5,
+    Stretch = 6,
+    Room = 7,
+    Unclear = 9,
+}
+
+impl From<Refusal> for u8 {
+    ghost from_gives = { λ r n. n ≡ number_of r };
+
+    fn from(refusal: Refusal) -> u8 {
+        refusal as u8
+    }
+}
+
+// The number of a call's result: that of its refusal, and 0 where it is done.
+pub fn number(outcome: Result<(), Refusal>) -> u8
+    ensures { result ≡ number outcome }
+{
+    match outcome {
+        Ok(()) => 0,
+        Err(refusal) => u8::from(refusal),
+    }
+}
+
+// ---- refusals
 
 // The limits of the library's calls.
 pub fn library_limits() -> Limits
@@ -49,84 +81,81 @@ pub fn library_limits() -> Limits
 }
 
 // 1 and 2.
-pub fn limits_refusal(limits: Limits, g: Geometry) -> u8
-    ensures { result ≡ first_of (limits_refusals limits g) }
+pub fn limits_refusal(limits: Limits, g: Geometry) -> Result<(), Refusal>
+    ensures { number result ≡ first_of (limits_refusals limits g) }
 {
     if g.n == 0 {
-        return 1;
+        return Err(Refusal::Disks);
     }
     if (limits.n as usize) < g.n {
-        return 1;
+        return Err(Refusal::Disks);
     }
     if g.b == 0 {
-        return 2;
+        return Err(Refusal::BlockSize);
     }
     if (limits.b as usize) < g.b {
-        return 2;
+        return Err(Refusal::BlockSize);
     }
-    0
+    Ok(())
 }
 
 // 1, 2 and 3.
-pub fn shape_refusal(limits: Limits, g: Geometry, len: usize) -> u8
-    ensures { result ≡ first_of (shape_refusals limits g len) }
+pub fn shape_refusal(limits: Limits, g: Geometry, len: usize) -> Result<(), Refusal>
+    ensures { number result ≡ first_of (shape_refusals limits g len) }
 {
-    let refused = limits_refusal(limits, g);
-    if refused != 0 {
-        return refused;
-    }
+    limits_refusal(limits, g)?;
     if len != (g.n + 2) * g.b {
-        return 3;
+        return Err(Refusal::Length);
     }
-    0
+    Ok(())
 }
 
 // 4 and 6.
-pub fn stretch_refusal(g: Geometry, disk: usize, offset: usize, count: usize) -> u8
-    ensures { result ≡ first_of (stretch_refusals g disk offset count) }
+pub fn stretch_refusal(g: Geometry, disk: usize, offset: usize, count: usize) -> Result<(), Refusal>
+    ensures { number result ≡ first_of (stretch_refusals g disk offset count) }
 {
     if g.n <= disk {
-        return 4;
+        return Err(Refusal::Device);
     }
     if count == 0 {
-        return 6;
+        return Err(Refusal::Stretch);
     }
     if g.b < offset {
-        return 6;
+        return Err(Refusal::Stretch);
     }
     if g.b - offset < count {
-        return 6;
+        return Err(Refusal::Stretch);
     }
-    0
+    Ok(())
 }
 
 // ---- the calls
 
-pub fn encode_refusal(g: Geometry, len: usize) -> u8
-    ensures { result ≡ encode_refusal g len }
+pub fn encode_refusal(g: Geometry, len: usize) -> Result<(), Refusal>
+    ensures { number result ≡ encode_refusal g len }
 {
     shape_refusal(library_limits(), g, len)
 }
 
-pub fn write_refusal(g: Geometry, len: usize, disk: usize, offset: usize, count: usize) -> u8
-    ensures { result ≡ write_refusal g len disk offset count }
+pub fn write_refusal(
+    g: Geometry,
+    len: usize,
+    disk: usize,
+    offset: usize,
+    count: usize,
+) -> Result<(), Refusal>
+    ensures { number result ≡ write_refusal g len disk offset count }
 {
-    let refused = encode_refusal(g, len);
-    if refused != 0 {
-        return refused;
-    }
+    encode_refusal(g, len)?;
     stretch_refusal(g, disk, offset, count)
 }
 
-pub fn check_refusal(g: Geometry, len: usize, room: usize) -> u8
-    ensures { result ≡ check_refusal g len room }
+pub fn check_refusal(g: Geometry, len: usize, room: usize) -> Result<(), Refusal>
+    ensures { number result ≡ check_refusal g len room }
 {
-    let refused = encode_refusal(g, len);
-    if refused != 0 {
-        return refused;
-    }
+    encode_refusal(g, len)?;
     if room != g.b {
-        return 7;
+        return Err(Refusal::Room);
     }
-    0
+    Ok(())
 }

@@ -12,7 +12,7 @@ use shape::Geometry;
 pub fn has_columns(g: Geometry, len: usize, i: usize, w: usize) -> bool
     ensures { result ≡ has_columns g len i w }
 {
-    if shape::encode_refusal(g, len) != 0 {
+    if shape::encode_refusal(g, len).is_err() {
         return false;
     }
     if g.b < w {

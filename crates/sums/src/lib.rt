@@ -174,7 +174,7 @@ pub fn in_passes(g: Geometry) -> bool
 pub fn set_parities(g: Geometry, stripe: &mut [u8])
     ensures { stripe.new ≡ parities_set g stripe.old }
 {
-    if shape::encode_refusal(g, stripe.len()) != 0 {
+    if shape::encode_refusal(g, stripe.len()).is_err() {
         return;
     }
     if !in_passes(g) {
@@ -293,7 +293,7 @@ fn add_pairs(
 fn has_strip(g: Geometry, len: usize, i: usize) -> bool
     ensures { result ≡ has_strip g len i }
 {
-    if shape::encode_refusal(g, len) != 0 {
+    if shape::encode_refusal(g, len).is_err() {
         return false;
     }
     if g.b < STRIP {
