@@ -8,6 +8,7 @@ ghost use Rattle.base.specs.Table.{tabulate};
 ghost use Rattle.column.specs.Column.{verdict};
 ghost use Rattle.chunk.specs.Chunk.{width};
 ghost use Rattle.shape.specs.Layout.{column};
+ghost use Rattle.shape.specs.Number.{number};
 ghost use Rattle.shape.specs.Refusals.{WellShaped};
 ghost use Rattle.stretch.specs.Stretch.{Has};
 ghost use Rattle.sums.specs.Strip.{strip, HasStrip};
@@ -16,7 +17,7 @@ ghost use Rattle.compare.specs.Compare.{summary_of, CompareCall, RoomFor, Checke
 ghost use Rattle.compare.specs.Repair.{unclear, repair_refusal};
 
 use chunk::WIDTH;
-use shape::Geometry;
+use shape::{Geometry, Refusal};
 use sums::{CHUNKS, STRIP};
 
 // Fills the room with the verdicts and answers their summary. Where a check is refused: 0, and the room stays.
@@ -41,26 +42,23 @@ pub fn summary_of(g: Geometry, stripe: &[u8]) -> u16
 }
 
 // 9 where a summary names no one device: 3 and 4.
-pub fn summary_refusal(summary: u16) -> u8
-    ensures { result ≡ choose (unclear summary) 9 0 }
+pub fn summary_refusal(summary: u16) -> Result<(), Refusal>
+    ensures { number result ≡ choose (unclear summary) 9 0 }
 {
     if summary == 3 {
-        return 9;
+        return Err(Refusal::Unclear);
     }
     if summary == 4 {
-        return 9;
+        return Err(Refusal::Unclear);
     }
-    0
+    Ok(())
 }
 
 // 1 to 3 and 9. This refusal alone reads the bytes of a stripe.
-pub fn repair_refusal(g: Geometry, stripe: &[u8]) -> u8
-    ensures { result ≡ repair_refusal g stripe.now }
+pub fn repair_refusal(g: Geometry, stripe: &[u8]) -> Result<(), Refusal>
+    ensures { number result ≡ repair_refusal g stripe.now }
 {
-    let refused = shape::encode_refusal(g, stripe.len());
-    if refused != 0 {
-        return refused;
-    }
+    shape::encode_refusal(g, stripe.len())?;
     summary_refusal(summary_of(g, stripe))
 }
 

@@ -1,9 +1,10 @@
--- No refusal has the number of a call that is done.
+-- No refusal has the number of a call that is done: a call is refused just where its number isn't 0.
 -- Assumes nothing.
-use Rattle.std.proofs.Common.{◌≡◌, ℕ, ◌≢◌, arith}
+use Rattle.std.proofs.Common.{◌≡◌, ◌≢◌, true≢false, sym, refl, arith}
+use Rattle.std.specs.Prelude.{false, true, Result, Ok, Err, is_err}
 use Rattle.shape.specs.declared.Refusal.{Refusal}
 use Rattle.shape.specs.declared.Refusal.TheVariants.{Disks, BlockSize, Length, Device, SameDevice, Stretch, Room, Unclear}
-use Rattle.shape.specs.Number.{number_of}
+use Rattle.shape.specs.Number.{number_of, number}
 
 pub refusal_number : (r : Refusal) → number_of r ≢ 0
 refusal_number Disks e = omega arith
@@ -14,3 +15,11 @@ refusal_number SameDevice e = omega arith
 refusal_number Stretch e = omega arith
 refusal_number Room e = omega arith
 refusal_number Unclear e = omega arith
+
+pub number_done : (r : Result Unit Refusal) → is_err r ≡ false → number r ≡ 0
+number_done (Ok done) e = refl
+number_done (Err refusal) e = absurd (true≢false e)
+
+pub number_refused : (r : Result Unit Refusal) → is_err r ≡ true → number r ≢ 0
+number_refused (Ok done) e = absurd (true≢false (sym e))
+number_refused (Err refusal) e = refusal_number refusal
