@@ -7,7 +7,7 @@ ghost use Rattle.gf256.specs.Field.{first_exponent};
 ghost use Rattle.column.specs.Column.{verdict_of, located};
 ghost use Rattle.chunk.specs.Chunk.{width, each, all_zero};
 ghost use Rattle.verdict.specs.Faulty.{faulty_of};
-ghost use Rattle.verdict.specs.Summary.{mixed, joined, WithSummary};
+ghost use Rattle.verdict.specs.Summary.{joined, WithSummary};
 ghost use Rattle.verdict.specs.Verdicts.{verdicts_of, unclean};
 
 use chunk::WIDTH;
@@ -45,6 +45,7 @@ fn located(n: usize, ratio: Element) -> u16
 const MIXED: u16 = 4;
 
 // The summary of two stretches of columns from their summaries. A clean column, the common case, is told first.
+#[tactic(auto, using(crate::proofs::Summary::joined_left, crate::proofs::Summary::joined_right, crate::proofs::Summary::joined_same, crate::proofs::Summary::joined_differ))]
 pub fn joined(found: u16, next: u16) -> u16
     ensures { result ≡ joined found next }
 {
