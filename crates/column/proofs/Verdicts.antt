@@ -3,12 +3,11 @@
 -- Assumes nothing.
 use mathlib.Core.Path.{◌≡◌, refl, sym, ap, ap₂, ◌∙◌}
 use mathlib.Core.Logic.{◌≢◌, ◌↔◌, ◌⊎◌, inl, inr}
+use Rattle.std.specs.Prelude.{Option, Some, None}
 use Prim.Native.Nat.{ℕ, zero, suc, ◌+◌, ◌≤◌, ◌<◌}
 use native.Mathlib.Nat.{suc-ne-zero, le_refl}
 use native.Mathlib.Omega.{arith}
 use native.Mathlib.Decide.{ℕ_discrete}
-use Rattle.gf256.specs.declared.Logarithm.{Logarithm}
-use Rattle.gf256.specs.declared.Logarithm.TheVariants.{Is as LogarithmIs, None as NoLogarithm}
 use Rattle.gf256.specs.Field.{sum, product, power, reciprocal, quotient, first_exponent, logarithm}
 use Rattle.gf256.proofs.Laws.{sum_cancel, sum_only_zero, xor_lt, product_right, product_comm, product_assoc, product_one, product_inverse, product_nonzero, power_lt, power_of_two_nonzero, found_is, exponent_within, logarithm_power_of_two}
 use Rattle.column.specs.Column.{Column, put, parity_p, parity_q, syndrome_p, syndrome_q, Encoded, reed_solomon, verdict_of, verdict, located}
@@ -40,9 +39,9 @@ row_both n zero q hp hq = absurd (hp refl)
 row_both n (suc p) zero hp hq = absurd (hq refl)
 row_both n (suc p) (suc q) hp hq = refl
 
-located_nonzero : (l : Logarithm) → located l ≢ 0
-located_nonzero (LogarithmIs z) e = absurd (omega arith)
-located_nonzero NoLogarithm e = suc-ne-zero 2 e
+located_nonzero : (l : Option ℕ) → located l ≢ 0
+located_nonzero (Some z) e = absurd (omega arith)
+located_nonzero None e = suc-ne-zero 2 e
 
 -- a verdict of 0 is the first row's
 pub clean_only : (n p q : ℕ) → verdict_of n p q ≡ 0 → (p ≡ 0) × (q ≡ 0)
@@ -144,7 +143,7 @@ module _ (n : ℕ) (few : n ≤ 255) (c : Column) where
             ap (λ (q : ℕ). quotient q P* p_nonzero) equation25 ∙ quotient_product (power 2 z) P* p_nonzero (power_lt 2 z) p_byte
 
         -- z = log(Q*/P*)
-        pub equation27 : logarithm (quotient Q* P* p_nonzero) ≡ LogarithmIs z
+        pub equation27 : logarithm (quotient Q* P* p_nonzero) ≡ Some z
         equation27 = ap logarithm equation26 ∙ logarithm_power_of_two z (omega arith)
 
         pub verdict_data : verdict n (put z v c) ≡ 16 + z
@@ -162,9 +161,9 @@ pub verdict_known : (n : ℕ) (c : Column) → (verdict n c ≤ 3) ⊎ ((16 ≤ 
 unfolding verdict_of
 verdict_known n c = rows (syndrome_p n c) (syndrome_q reed_solomon n c)
   where
-    last : (l : Logarithm) → ((z : ℕ) → l ≡ LogarithmIs z → z < n) → (located l ≤ 3) ⊎ ((16 ≤ located l) × (located l < 16 + n))
-    last (LogarithmIs z) below = inr (omega arith, omega (arith, below z refl))
-    last NoLogarithm below = inl (le_refl 3)
+    last : (l : Option ℕ) → ((z : ℕ) → l ≡ Some z → z < n) → (located l ≤ 3) ⊎ ((16 ≤ located l) × (located l < 16 + n))
+    last (Some z) below = inr (omega arith, omega (arith, below z refl))
+    last None below = inl (le_refl 3)
 
     rows : (p q : ℕ) → (verdict_of n p q ≤ 3) ⊎ ((16 ≤ verdict_of n p q) × (verdict_of n p q < 16 + n))
     rows zero zero = inl (omega arith)
@@ -185,13 +184,13 @@ divides_nonzero n c = rows (syndrome_p n c) (syndrome_q reed_solomon n c)
     rows (suc p) (suc q) h = (suc-ne-zero p, suc-ne-zero q)
 
 -- ---- what a verdict that names a device tells of P* and Q*
-located_is : (l : Logarithm) {z : ℕ} → located l ≡ 16 + z → l ≡ LogarithmIs z
-located_is (LogarithmIs y) e = ap LogarithmIs (omega arith)
-located_is NoLogarithm e = absurd (omega arith)
+located_is : (l : Option ℕ) {z : ℕ} → located l ≡ 16 + z → l ≡ Some z
+located_is (Some y) e = ap Some (omega arith)
+located_is None e = absurd (omega arith)
 
-located_large : (l : Logarithm) → 3 ≤ located l
-located_large (LogarithmIs z) = omega arith
-located_large NoLogarithm = le_refl 3
+located_large : (l : Option ℕ) → 3 ≤ located l
+located_large (Some z) = omega arith
+located_large None = le_refl 3
 
 pub told_p : (n p q : ℕ) → verdict_of n p q ≡ 1 → q ≡ 0
 unfolding verdict_of

@@ -1,9 +1,7 @@
 -- One column: position i of all devices. A column gives the symbol of each role: data disk k is role k, P is role n, Q is role n + 1.
 -- Equations are numbered as in the paper.
-use Rattle.std.specs.Prelude.{ℕ, zero, suc, ◌+◌, ◌≡◌, eqb}
+use Rattle.std.specs.Prelude.{ℕ, zero, suc, ◌+◌, ◌≡◌, eqb, Option, Some, None}
 use Rattle.std.proofs.Common.{suc-ne-zero}
-use Rattle.gf256.specs.declared.Logarithm.{Logarithm}
-use Rattle.gf256.specs.declared.Logarithm.TheVariants.{Is as LogarithmIs, None as NoLogarithm}
 use Rattle.gf256.specs.Field.{sum, product, power, reciprocal, quotient, first_exponent}
 use Rattle.gf256.proofs.Laws.{power_of_two_nonzero}
 use Rattle.column.specs.declared.Device.{Device}
@@ -161,9 +159,9 @@ module _ (code : Code) where
 
 -- The verdict on a column, from P* and Q*: 0 clean, 1 for P, 2 for Q; where neither is 00, 16 + z for the data disk z with g^z = Q*/P*
 -- (equation 26), and 3 where no data disk has it. So z is the logarithm of Q*/P* (equation 27).
-abbrev pub located : Logarithm → ℕ
-located (LogarithmIs z) = 16 + z
-located NoLogarithm = 3
+abbrev pub located : Option ℕ → ℕ
+located (Some z) = 16 + z
+located None = 3
 
 unfoldable pub verdict_of : ℕ → ℕ → ℕ → ℕ
 verdict_of n zero zero = 0

@@ -9,6 +9,7 @@ use native.Mathlib.Omega.{arith}
 use native.Mathlib.Decide.{ℕ_discrete}
 use borrow.Author.Tests.{ne_eqb, le-ltb, eqb-false}
 use lib.Dec.{eqb}
+use Rattle.std.specs.Prelude.{Some}
 use Rattle.base.proofs.Choice.{either_false}
 use Rattle.base.proofs.Table.{length_tabulate, get_d_tabulate}
 use Rattle.column.specs.declared.Device.{Device}
@@ -18,7 +19,6 @@ use Rattle.column.specs.Loss.{Known}
 use Rattle.column.proofs.Verdicts.{verdict_known}
 use Rattle.shape.specs.declared.Geometry.{Geometry}
 use Rattle.shape.specs.Layout.{column}
-use Rattle.verdict.specs.declared.Faulty.TheVariants.{One}
 use Rattle.verdict.specs.Faulty.{faulty_of}
 use Rattle.verdict.specs.Summary.{summary}
 use Rattle.verdict.specs.Agreement.{Agree}
@@ -46,10 +46,10 @@ module _ (g : Geometry) (s : List ℕ) where
       go (no n) (no m) = found ((summary_agree (verdicts g s) v n m).0 refl)
 
 -- one that names a device names it as the verdicts do
-pub faulty_right : (d : Device) → faulty_of (right_verdict d) ≡ One d
+pub faulty_right : (d : Device) → faulty_of (right_verdict d) ≡ Some d
 faulty_right (Data z) =
     rw (ne_eqb (16 + z) 1 (omega arith), ne_eqb (16 + z) 2 (omega arith), le-ltb (16 + z) 16 (omega arith))
-    (ap (λ (k : ℕ). One (Data k)) (omega arith))
+    (ap (λ (k : ℕ). Some (Data k)) (omega arith))
 faulty_right P = refl
 faulty_right Q = refl
 

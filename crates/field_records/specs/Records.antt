@@ -1,33 +1,34 @@
 -- The answers to records of ten bytes: the operation's number, the operand a, and a big-endian number of eight bytes, which is the exponent
 -- of a power and otherwise holds the operand b in its low byte.
-use Rattle.std.specs.Prelude.{◌≡◌, List, [], ◌∷◌, ℕ, zero, suc, ◌+◌, ◌*◌, ◌/◌, ◌%◌, ◌<◌, ltb, length, get_or}
+use Rattle.std.specs.Prelude.{◌≡◌, List, [], ◌∷◌, ℕ, zero, suc, ◌+◌, ◌*◌, ◌/◌, ◌%◌, ltb, length, get_or, Option, Some, None}
 use Rattle.base.specs.Choice.{choose}
 use Rattle.base.specs.Table.{tabulate}
-use Rattle.gf256.specs.declared.Inverse.{Inverse}
-use Rattle.gf256.specs.declared.Inverse.TheVariants.{Is as InverseIs, None as NoInverse}
-use Rattle.gf256.specs.declared.Logarithm.{Logarithm}
-use Rattle.gf256.specs.declared.Logarithm.TheVariants.{Is as LogarithmIs, None as NoLogarithm}
+use Rattle.gf256.specs.declared.Element.{Element}
 use Rattle.gf256.specs.Field.{sum, double, product, power, inverse, logarithm}
-use Rattle.field_records.specs.declared.Answer.{Answer}
-use Rattle.field_records.specs.declared.Answer.TheVariants.{Is, None}
+use Rattle.field_records.specs.declared.Operation.{Operation}
+use Rattle.field_records.specs.declared.Operation.TheVariants.{Sum, Product, Power, Inverse, Logarithm, Double}
 
 -- the two bytes of an answer: 01 and the value, or 00 00 for none
-abbrev pub bytes_of : Answer → List ℕ
-bytes_of (Is v) = 1 ∷ v ∷ []
+abbrev pub bytes_of : Option ℕ → List ℕ
+bytes_of (Some v) = 1 ∷ v ∷ []
 bytes_of None = 0 ∷ 0 ∷ []
 
-abbrev pub of_inverse : Inverse → Answer
-of_inverse (InverseIs y) = Is y.0
-of_inverse NoInverse = None
+abbrev pub of_inverse : Option Element → Option ℕ
+of_inverse (Some y) = Some y.0
+of_inverse None = None
 
-abbrev pub of_logarithm : Logarithm → Answer
-of_logarithm (LogarithmIs e) = Is e
-of_logarithm NoLogarithm = None
+abbrev pub number_of : Operation → ℕ
+number_of Sum = 1
+number_of Product = 2
+number_of Power = 3
+number_of Inverse = 4
+number_of Logarithm = 5
+number_of Double = 6
 
 -- The operations by their numbers, from 1 on; any other number answers none.
-unfoldable pub answer : ℕ → ℕ → ℕ → Answer
+unfoldable pub answer : ℕ → ℕ → ℕ → Option ℕ
 answer operation a b =
-    get_or (None ∷ Is (sum a (b % 256)) ∷ Is (product a (b % 256)) ∷ Is (power a b) ∷ of_inverse (inverse a) ∷ of_logarithm (logarithm a) ∷ Is (double a) ∷ []) operation None
+    get_or (None ∷ Some (sum a (b % 256)) ∷ Some (product a (b % 256)) ∷ Some (power a b) ∷ of_inverse (inverse a) ∷ logarithm a ∷ Some (double a) ∷ []) operation None
 
 -- the number that k bytes write, high byte first
 unfoldable pub big_endian : ℕ → (ℕ → ℕ) → ℕ
@@ -38,7 +39,7 @@ big_endian (suc k) byte = big_endian k byte * 256 + byte k
 abbrev pub number_at : ℕ → List ℕ → ℕ → ℕ
 number_at k bytes at = big_endian k (λ j. get_or bytes (at + j) 0)
 
-abbrev pub answer_at : List ℕ → ℕ → Answer
+abbrev pub answer_at : List ℕ → ℕ → Option ℕ
 answer_at bytes at = answer (get_or bytes at 0) (get_or bytes (at + 1) 0) (number_at 8 bytes (at + 2))
 
 -- how many whole records there are
@@ -57,8 +58,3 @@ answered bytes = tabulate (length bytes) (λ j. placed bytes j (get_or bytes j 0
 pub record AnswerAllCall (before : List ℕ) (r : ℕ) (after : List ℕ) : Type 0 where
   pub count : r ≡ 2 * records before
   pub bytes : after ≡ answered before
-
--- a number of four bytes that was read
-pub record HalfRead (bytes : List ℕ) (at r : ℕ) : Type 0 where
-  pub value : r ≡ number_at 4 bytes at
-  pub small : r < 0x1_0000_0000

@@ -4,15 +4,20 @@
 // for none.
 #![tactic(auto)]
 
-ghost use Rattle.std.specs.Prelude.{◌≡◌, ◌+◌, ◌≤◌, ◌<◌, length, get_or};
-ghost use Rattle.field_records.specs.Records.{bytes_of, answer, number_at, AnswerAllCall, HalfRead};
+ghost use Rattle.std.specs.Prelude.{◌≡◌, ◌+◌, ◌≤◌, ◌<◌, ◌⊎◌, length, MatchOption};
+ghost use Rattle.field_records.specs.Records.{number_of, bytes_of, answer, number_at, AnswerAllCall};
 
-use gf256::{Element, Inverse, Logarithm};
+use gf256::Element;
 
+// The operations, in the order of their numbers.
 #[derive(Clone, Copy)]
-enum Answer {
-    Is(u8),
-    None,
+enum Operation {
+    Sum,
+    Product,
+    Power,
+    Inverse,
+    Logarithm,
+    Double,
 }
 
 // Puts the answers at the start of the records, each over bytes that are read already, and answers
@@ -20,79 +25,72 @@ enum Answer {
 pub fn answer_all(records: &mut [u8]) -> usize
     ensures { AnswerAllCall records.old result records.new }
 {
-    let mut at = 0;
-    let mut count = 0;
-    while 10 <= records.len() - at {
+    let count = records.len() / 10;
+    for k in 0..count {
+        let at = 10 * k;
         let a = Element(records[at + 1]);
         let answer = answer_one(records[at], a, number(records, at + 2));
-        let first = first_byte(answer);
-        let second = second_byte(answer);
-        records[count] = first;
-        records[count + 1] = second;
-        at += 10;
-        count += 2;
+        let [first, second] = bytes_of(answer);
+        records[2 * k] = first;
+        records[2 * k + 1] = second;
     }
-    count
+    2 * count
 }
 
-fn answer_one(operation: u8, a: Element, b: u64) -> Answer
+// None for a number that is no operation, and for the inverse and the logarithm of 00.
+#[tactic(auto, using(gf256::proofs::Powers::exponent_below), unfolding(crate::specs::Records::answer))]
+fn answer_one(operation: u8, a: Element, b: u64) -> Option<u8>
     ensures { result ≡ answer operation a.0 b }
 {
+    let operation = numbered(operation)?;
     let low = b % 256;
     let other = Element(low as u8);
     match operation {
-        1 => Answer::Is(a.sum(other).0),
-        2 => Answer::Is(a.product(other).0),
-        3 => Answer::Is(a.power(b).0),
-        4 => match a.inverse() {
-            Inverse::Is(y) => Answer::Is(y.0),
-            Inverse::None => Answer::None,
-        },
-        5 => match a.logarithm() {
-            Logarithm::Is(e) => Answer::Is(e as u8),
-            Logarithm::None => Answer::None,
-        },
-        6 => Answer::Is(a.double().0),
-        _ => Answer::None,
+        Operation::Sum => Some(a.sum(other).0),
+        Operation::Product => Some(a.product(other).0),
+        Operation::Power => Some(a.power(b).0),
+        Operation::Inverse => Some(a.inverse()?.0),
+        Operation::Logarithm => Some(a.logarithm()? as u8),
+        Operation::Double => Some(a.double().0),
     }
 }
 
-fn first_byte(answer: Answer) -> u8
-    ensures { result ≡ get_or (bytes_of answer) 0 0 }
+fn numbered(number: u8) -> Option<Operation>
+    ensures { MatchOption result ((number ≡ 0) ⊎ (6 < number)) (λ operation. number ≡ number_of operation) }
+{
+    match number {
+        1 => Some(Operation::Sum),
+        2 => Some(Operation::Product),
+        3 => Some(Operation::Power),
+        4 => Some(Operation::Inverse),
+        5 => Some(Operation::Logarithm),
+        6 => Some(Operation::Double),
+        _ => None,
+    }
+}
+
+fn bytes_of(answer: Option<u8>) -> [u8; 2]
+    ensures { result ≡ bytes_of answer }
 {
     match answer {
-        Answer::Is(_) => 1,
-        Answer::None => 0,
+        Some(value) => [1, value],
+        None => [0, 0],
     }
 }
 
-fn second_byte(answer: Answer) -> u8
-    ensures { result ≡ get_or (bytes_of answer) 1 0 }
-{
-    match answer {
-        Answer::Is(value) => value,
-        Answer::None => 0,
-    }
-}
-
+#[tactic(auto, unfolding(crate::specs::Records::big_endian))]
 fn number(bytes: &[u8], at: usize) -> u64
     requires { at + 8 ≤ length bytes.now }
     ensures { result ≡ number_at 8 bytes.now at }
 {
-    half(bytes, at) * 0x1_0000_0000 + half(bytes, at + 4)
-}
-
-fn half(bytes: &[u8], at: usize) -> u64
-    requires { at + 4 ≤ length bytes.now }
-    ensures { HalfRead bytes.now at result }
-{
-    let high = wide(bytes[at]) * 256 + wide(bytes[at + 1]);
-    let low = wide(bytes[at + 2]) * 256 + wide(bytes[at + 3]);
-    high * 65536 + low
-}
-
-fn wide(x: u8) -> u64
-    ensures { (result ≡ x) × (result < 256) }
-{
-    x as u64
+    u64::from_be_bytes([
+        bytes[at],
+        bytes[at + 1],
+        bytes[at + 2],
+        bytes[at + 3],
+        bytes[at + 4],
+        bytes[at + 5],
+        bytes[at + 6],
+        bytes[at + 7],
+    ])
 }

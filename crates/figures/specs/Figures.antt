@@ -1,9 +1,7 @@
 -- The bench figures that are proved: one table of cases with the values that they must give, in the order and as printed in document
 -- 01, with the inverse of 00 and the paper's logarithm of 10, and one theorem, that the definitions give them. That 00 has no logarithm is
 -- the law `logarithm_none` of the field.
-use Rattle.std.specs.Prelude.{ℕ, suc, ◌-◌, Bool, true, false, ◌&&◌, List, [], ◌∷◌, T, eqb, length, get_or}
-use Rattle.gf256.specs.declared.Inverse.TheVariants.{Is as InverseIs, None as NoInverse}
-use Rattle.gf256.specs.declared.Logarithm.TheVariants.{Is as LogarithmIs, None as NoLogarithm}
+use Rattle.std.specs.Prelude.{ℕ, suc, ◌-◌, Bool, true, false, ◌&&◌, List, [], ◌∷◌, T, eqb, length, get_or, Some, None}
 use Rattle.gf256.specs.Field.{product, power, inverse, carryless, remainder, first_exponent, logarithm}
 use Rattle.column.specs.declared.Device.TheVariants.{Data}
 use Rattle.column.specs.declared.Lost.TheVariants.{Two}
@@ -38,9 +36,9 @@ rebuilt bytes x y = rebuild_column reed_solomon (disks bytes) (Two (Data x) (Dat
 abbrev pub holds : Row → Bool
 holds (Product a b expected) = eqb (product a b) expected
 holds (Power x exponent expected) = eqb (power x exponent) expected
-holds (Inverse x expected) = elim (inverse x) [ InverseIs y ↦ eqb y.0 expected | NoInverse ↦ false ]
-holds (InverseNone x) = elim (inverse x) [ InverseIs y ↦ false | NoInverse ↦ true ]
-holds (Logarithm x expected) = elim (logarithm x) [ LogarithmIs e ↦ eqb e expected | NoLogarithm ↦ false ]
+holds (Inverse x expected) = elim (inverse x) [ Some y ↦ eqb y.0 expected | None ↦ false ]
+holds (InverseNone x) = elim (inverse x) [ Some y ↦ false | None ↦ true ]
+holds (Logarithm x expected) = elim (logarithm x) [ Some e ↦ eqb e expected | None ↦ false ]
 holds (Encode bytes p q) = parities (length bytes) (encode_column reed_solomon (length bytes) (column_of bytes)) p q
 holds (Write bytes disk new p q) = parities (disks bytes) (write_column reed_solomon (disks bytes) disk new (column_of bytes)) p q
 holds (Lose bytes x y dx dy) = eqb (rebuilt bytes x y x) dx && eqb (rebuilt bytes x y y) dy

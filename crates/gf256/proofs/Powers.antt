@@ -4,6 +4,7 @@
 use mathlib.Core.Path.{◌≡◌, refl, sym, ap, ap₂, subst, ◌∙◌}
 use mathlib.Core.Bool.{Bool, true, false}
 use mathlib.Core.Logic.{◌≢◌, ◌↔◌}
+use Rattle.std.specs.Prelude.{Some, None}
 use Prim.Native.Nat.{ℕ, zero, suc, ◌+◌, ◌-◌, ◌*◌, ◌/◌, ◌%◌, ◌≤◌, ◌<◌, suc-le-suc}
 use native.Mathlib.Nat.{add-zero, zero-add, suc-add, mul-suc, mul-zero, mod-lt, mod-eq_of_lt, div-add-mod', zero-lt-suc, not-suc-le-zero, mul_comm, suc-ne-zero, lt_irrefl, ne_of_lt, lt_trans, le_of_suc-le-suc}
 use native.Mathlib.Numerals.{add-one}
@@ -13,8 +14,6 @@ use lib.Dec.{eqb, lit<}
 use lib.Bits.{xor_lt, xor_self}
 use lib.ListN.{get_or}
 use Rattle.gf256.specs.declared.Element.{Element}
-use Rattle.gf256.specs.declared.Inverse.TheVariants.{Is as InverseIs, None as NoInverse}
-use Rattle.gf256.specs.declared.Logarithm.TheVariants.{Is as LogarithmIs, None as NoLogarithm}
 use Rattle.gf256.specs.Field.{element, sum, double, product, power, reciprocal, quotient, inverse, first_exponent, logarithm, ExponentOf}
 use Rattle.gf256.proofs.Check.{same_at}
 use Rattle.gf256.proofs.Xor.{xor_zero}
@@ -122,6 +121,10 @@ power_255 x h n =
 pub power_mod : (x : ℕ) → x < 256 → x ≢ 0 → (e : ℕ) → power x (e % 255) ≡ power x e
 power_mod x h n = power_cycle x (power_255 x h n)
 
+pub power_none : (x : ℕ) → power x 0 ≡ 1
+unfolding power
+power_none x = refl
+
 pub power_zero : (e : ℕ) → e ≢ 0 → power 0 e ≡ 0
 unfolding power
 power_zero zero n = absurd (n refl)
@@ -171,22 +174,22 @@ quotient_nonzero a b ha hb na other =
     (λ z. power_of_two_nonzero 0 (unfold power in sym (product_inverse b hb other) ∙ ap (product b) z ∙ product_zero b))
 
 -- ---- what `inverse` and `logarithm` answer: none for 00 alone
-pub inverse_is : (x : ℕ) → (other : x ≢ 0) → inverse x ≡ InverseIs (element (reciprocal x other))
+pub inverse_is : (x : ℕ) → (other : x ≢ 0) → inverse x ≡ Some (element (reciprocal x other))
 unfolding inverse
 inverse_is zero other = absurd (other refl)
 inverse_is (suc x) other = refl
 
-pub inverse_none : (x : ℕ) → (inverse x ≡ NoInverse) ↔ (x ≡ 0)
+pub inverse_none : (x : ℕ) → (inverse x ≡ None) ↔ (x ≡ 0)
 unfolding inverse
 inverse_none zero = (λ e. refl, λ e. refl)
 inverse_none (suc x) = (λ e. cc, λ e. absurd (suc-ne-zero x e))
 
 -- what an answer tells: an inverse is the one by which A/B is defined
-pub inverse_value : (x : ℕ) {e : Element} (other : x ≢ 0) → inverse x ≡ InverseIs e → e.0 ≡ reciprocal x other
+pub inverse_value : (x : ℕ) {e : Element} (other : x ≢ 0) → inverse x ≡ Some e → e.0 ≡ reciprocal x other
 inverse_value x other e = let is = inverse_is x other in cc
 
 -- the search for an exponent
-first_is : (x k e l : ℕ) → l < k → ((j : ℕ) → j < l → power 2 (e + j) ≢ x) → power 2 (e + l) ≡ x → first_exponent x e k ≡ LogarithmIs (e + l)
+first_is : (x k e l : ℕ) → l < k → ((j : ℕ) → j < l → power 2 (e + j) ≢ x) → power 2 (e + l) ≡ x → first_exponent x e k ≡ Some (e + l)
 unfolding first_exponent
 first_is x zero e l h misses hit = absurd (not-suc-le-zero h)
 first_is x (suc k) e zero h misses hit =
@@ -195,25 +198,25 @@ first_is x (suc k) e zero h misses hit =
 first_is x (suc k) e (suc l) h misses hit =
     let now : eqb (power 2 e) x ≡ false = ne_eqb (power 2 e) x (λ q. misses 0 (zero-lt-suc l) (ap (power 2) (add-zero e) ∙ q)) in
     rw (now, first_exponent)
-    (first_is x k (suc e) l (le_of_suc-le-suc h) (λ j p q. misses (suc j) (suc-le-suc p) (ap (power 2) (sym (step j)) ∙ q)) (ap (power 2) (step l) ∙ hit) ∙ ap LogarithmIs (step l))
+    (first_is x k (suc e) l (le_of_suc-le-suc h) (λ j p q. misses (suc j) (suc-le-suc p) (ap (power 2) (sym (step j)) ∙ q)) (ap (power 2) (step l) ∙ hit) ∙ ap Some (step l))
   where
     step : (j : ℕ) → suc e + j ≡ e + suc j
     step j = omega arith
 
-first_none : (x k e : ℕ) → ((j : ℕ) → j < e + k → power 2 j ≢ x) → first_exponent x e k ≡ NoLogarithm
+first_none : (x k e : ℕ) → ((j : ℕ) → j < e + k → power 2 j ≢ x) → first_exponent x e k ≡ None
 unfolding first_exponent
 first_none x zero e misses = refl
 first_none x (suc k) e misses =
     rw (ne_eqb (power 2 e) x (misses e (omega arith)), first_exponent) (first_none x k (suc e) (λ j p. misses j (omega arith)))
 
 -- what is found is one of the k, and the exponent of x
-pub found_is : (x k e : ℕ) {l : ℕ} → first_exponent x e k ≡ LogarithmIs l → (l < e + k) × (power 2 l ≡ x)
+pub found_is : (x k e : ℕ) {l : ℕ} → first_exponent x e k ≡ Some l → (l < e + k) × (power 2 l ≡ x)
 unfolding first_exponent
 found_is x zero e is = absurd (suc-ne-zero 0 cc)
 found_is x (suc k) e {l} is = go (eqb (power 2 e) x) refl (found_is x k (suc e)) is
   where
-    go : (b : Bool) → eqb (power 2 e) x ≡ b → (first_exponent x (suc e) k ≡ LogarithmIs l → (l < suc e + k) × (power 2 l ≡ x))
-        → elim b [ true ↦ LogarithmIs e | false ↦ first_exponent x (suc e) k ] ≡ LogarithmIs l
+    go : (b : Bool) → eqb (power 2 e) x ≡ b → (first_exponent x (suc e) k ≡ Some l → (l < suc e + k) × (power 2 l ≡ x))
+        → elim b [ true ↦ Some e | false ↦ first_exponent x (suc e) k ] ≡ Some l
         → (l < e + suc k) × (power 2 l ≡ x)
     go true here later h = let same : e ≡ l = cc in (omega arith, ap (power 2) (sym same) ∙ eqb-true (power 2 e) x here)
     go false here later h = (omega (arith, (later h).0), (later h).1)
@@ -223,40 +226,53 @@ module _ {x l : ℕ} (has : ExponentOf x l) where
   no_other : (j : ℕ) → j < l → power 2 j ≢ x
   no_other j p e = ne_of_lt p (power_of_two_injective j l (lt_trans p has.below) has.below (e ∙ sym has.is))
 
-  pub exponent_within : {k : ℕ} → l < k → first_exponent x 0 k ≡ LogarithmIs l
+  pub exponent_within : {k : ℕ} → l < k → first_exponent x 0 k ≡ Some l
   exponent_within {k} h =
       first_is x k 0 l h (λ j p e. no_other j p (ap (power 2) (sym (zero-add j)) ∙ e)) (ap (power 2) (zero-add l) ∙ has.is)
-      ∙ ap LogarithmIs (zero-add l)
+      ∙ ap Some (zero-add l)
 
-  pub exponent_beyond : {k : ℕ} → k ≤ l → first_exponent x 0 k ≡ NoLogarithm
+  pub exponent_beyond : {k : ℕ} → k ≤ l → first_exponent x 0 k ≡ None
   exponent_beyond {k} h = first_none x k 0 (λ j p. no_other j (omega arith))
 
-  pub logarithm_is : logarithm x ≡ LogarithmIs l
+  pub logarithm_is : logarithm x ≡ Some l
   unfolding logarithm
   logarithm_is = exponent_within has.below
 
-pub logarithm_zero : logarithm 0 ≡ NoLogarithm
+pub logarithm_zero : logarithm 0 ≡ None
 unfolding logarithm
 logarithm_zero = first_none 0 _ 0 (λ j p. power_of_two_nonzero j)
 
-pub logarithm_none : (x : ℕ) → x < 256 → (logarithm x ≡ NoLogarithm) ↔ (x ≡ 0)
+pub logarithm_none : (x : ℕ) → x < 256 → (logarithm x ≡ None) ↔ (x ≡ 0)
 logarithm_none zero h = (λ e. refl, λ e. logarithm_zero)
 logarithm_none (suc x) h =
     let has = logarithm_is (exponent_entry x (le_of_suc-le-suc h)) in (λ e. cc, λ e. absurd (suc-ne-zero x e))
 
-pub logarithm_power_of_two : (e : ℕ) → e < 255 → logarithm (power 2 e) ≡ LogarithmIs e
+pub logarithm_power_of_two : (e : ℕ) → e < 255 → logarithm (power 2 e) ≡ Some e
 logarithm_power_of_two e h = logarithm_is (record { below = h; is = refl })
 
 -- a logarithm is the exponent of its element
-pub logarithm_exponent : (x : ℕ) {l : ℕ} → x < 256 → logarithm x ≡ LogarithmIs l → ExponentOf x l
+pub logarithm_exponent : (x : ℕ) {l : ℕ} → x < 256 → logarithm x ≡ Some l → ExponentOf x l
 logarithm_exponent zero h e = let none = logarithm_zero in absurd (suc-ne-zero 0 cc)
 logarithm_exponent (suc x) {l} h e =
     let has = exponent_entry x (le_of_suc-le-suc h) in
     let is = logarithm_is has in
     subst (λ (m : ℕ). ExponentOf (suc x) m) (let same : get_or logarithms x 0 ≡ l = cc in same) has
 
+pub exponent_below : (x l : ℕ) → x < 256 → logarithm x ≡ Some l → l < 255
+exponent_below x l h e = (logarithm_exponent x h e).below
+
+-- the inverse by the logarithm
+pub inverse_by_logarithm : (x : ℕ) {l : ℕ} → x < 256 → logarithm x ≡ Some l → inverse x ≡ Some (element (power 2 ((255 - l) % 255)))
+inverse_by_logarithm x h e =
+    let has = logarithm_exponent x h e in
+    let other = exponent_nonzero has in
+    inverse_is x other ∙ ap (λ (v : ℕ). Some (element v)) (reciprocal_by_exponent has other)
+
+pub inverse_without : (x : ℕ) → x < 256 → logarithm x ≡ None → inverse x ≡ None
+inverse_without x h e = (inverse_none x).1 ((logarithm_none x h).0 e)
+
 -- the sum of the logarithms, modulo 255
-pub logarithm_product : {a b i j : ℕ} → ExponentOf a i → ExponentOf b j → logarithm (product a b) ≡ LogarithmIs ((i + j) % 255)
+pub logarithm_product : {a b i j : ℕ} → ExponentOf a i → ExponentOf b j → logarithm (product a b) ≡ Some ((i + j) % 255)
 logarithm_product {i = i} {j} ha hb =
     ap logarithm (product_by_exponents ha hb) ∙ logarithm_power_of_two ((i + j) % 255) (mod-lt (i + j) (zero-lt-suc 254))
 

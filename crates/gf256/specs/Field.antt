@@ -1,13 +1,9 @@
 -- The field GF(2^8) of the paper's section 1. An element is a byte: a polynomial over two elements whose coefficient of x^i is
 -- the bit of weight 2^i. `double`, `product` and `power` read the low eight bits of their elements alone.
-use Rattle.std.specs.Prelude.{ℕ, zero, suc, ◌+◌, ◌*◌, ◌/◌, ◌%◌, ◌^◌, ◌<◌, ◌≡◌, true, false, ◌≢◌, eqb, ltb}
+use Rattle.std.specs.Prelude.{ℕ, zero, suc, ◌+◌, ◌*◌, ◌/◌, ◌%◌, ◌^◌, ◌<◌, ◌≡◌, true, false, ◌≢◌, eqb, ltb, Option, Some, None}
 use Rattle.std.proofs.Common.{suc-ne-zero}
 use Rattle.std.specs.Int.Bits.{bit_xor, differ}
 use Rattle.gf256.specs.declared.Element.{Element}
-use Rattle.gf256.specs.declared.Inverse.{Inverse}
-use Rattle.gf256.specs.declared.Inverse.TheVariants.{Is as InverseIs, None as NoInverse}
-use Rattle.gf256.specs.declared.Logarithm.{Logarithm}
-use Rattle.gf256.specs.declared.Logarithm.TheVariants.{Is as LogarithmIs, None as NoLogarithm}
 
 abbrev pub element : ℕ → Element
 element v = record { 0 = v }
@@ -64,18 +60,18 @@ abbrev pub quotient : (a b : ℕ) → b ≢ 0 → ℕ
 quotient a b other = product a (reciprocal b other)
 
 -- The inverse that an element answers: none for 00.
-unfoldable pub inverse : ℕ → Inverse
-inverse zero = NoInverse
-inverse (suc x) = InverseIs (element (reciprocal (suc x) (suc-ne-zero x)))
+unfoldable pub inverse : ℕ → Option Element
+inverse zero = None
+inverse (suc x) = Some (element (reciprocal (suc x) (suc-ne-zero x)))
 
 -- the first of the k exponents from e on whose power of 02 is x, else none
-unfoldable pub first_exponent : ℕ → ℕ → ℕ → Logarithm
-first_exponent x e zero = NoLogarithm
-first_exponent x e (suc k) = elim (eqb (power 2 e) x) [ true ↦ LogarithmIs e | false ↦ first_exponent x (suc e) k ]
+unfoldable pub first_exponent : ℕ → ℕ → ℕ → Option ℕ
+first_exponent x e zero = None
+first_exponent x e (suc k) = elim (eqb (power 2 e) x) [ true ↦ Some e | false ↦ first_exponent x (suc e) k ]
 
 -- The logarithm to base 02 that an element answers: the first exponent below 255 whose power of 02 it is. No power of 02 is 00
 -- (`power_of_two_nonzero`), so none for 00.
-unfoldable pub logarithm : ℕ → Logarithm
+unfoldable pub logarithm : ℕ → Option ℕ
 logarithm x = first_exponent x 0 255
 
 -- what a private function of the code finds in its table: the exponent e of the power of 02 that x is

@@ -14,22 +14,8 @@ use logarithm_table::LOGARITHMS;
 use power_table::POWERS;
 use split_tables::split_product;
 
-#[derive(Clone, Copy)]
+#[derive(Clone, Copy, PartialEq, Eq, Debug)]
 pub struct Element(pub u8);
-
-// The inverse of an element. 00 has none.
-#[derive(Clone, Copy)]
-pub enum Inverse {
-    Is(Element),
-    None,
-}
-
-// The logarithm of an element to base 02, an exponent below 255. 00 has none.
-#[derive(Clone, Copy)]
-pub enum Logarithm {
-    Is(u64),
-    None,
-}
 
 impl Element {
     pub fn sum(self, other: Element) -> Element
@@ -39,6 +25,7 @@ impl Element {
     }
 
     // Times 02.
+    #[tactic(auto, using(crate::proofs::Product::double_shift))]
     pub fn double(self) -> Element
         ensures { result.0 ≡ double self.0 }
     {
@@ -54,6 +41,7 @@ impl Element {
     }
 
     // Exponents of a nonzero element count modulo 255.
+    #[tactic(auto, using(crate::proofs::Powers::power_none, crate::proofs::Powers::power_zero, crate::proofs::Powers::power_by_exponent))]
     pub fn power(self, exponent: u64) -> Element
         ensures { result.0 ≡ power self.0 exponent }
     {
@@ -66,23 +54,25 @@ impl Element {
         power_of_two(exponent_of(self) * (exponent % 255) % 255)
     }
 
-    // 02^(255 - e) for 02^e; the exponent 255, of 01, is no place of the table and counts as 0.
-    pub fn inverse(self) -> Inverse
+    // None for 00 alone. The inverse of 02^e is 02^(255 - e); the exponent 255, of 01, is no place of the
+    // table and counts as 0.
+    #[tactic(auto, using(crate::proofs::Powers::exponent_below, crate::proofs::Powers::inverse_by_logarithm, crate::proofs::Powers::inverse_without))]
+    pub fn inverse(self) -> Option<Element>
         ensures { result ≡ inverse self.0 }
     {
-        if self.0 == 0 {
-            return Inverse::None;
-        }
-        Inverse::Is(power_of_two((255 - exponent_of(self)) % 255))
+        let exponent = self.logarithm()?;
+        Some(power_of_two((255 - exponent) % 255))
     }
 
-    pub fn logarithm(self) -> Logarithm
+    // To base 02, an exponent below 255. None for 00 alone.
+    #[tactic(auto, using(crate::proofs::Powers::logarithm_zero, crate::proofs::Powers::logarithm_is))]
+    pub fn logarithm(self) -> Option<u64>
         ensures { result ≡ logarithm self.0 }
     {
         if self.0 == 0 {
-            return Logarithm::None;
+            return None;
         }
-        Logarithm::Is(exponent_of(self))
+        Some(exponent_of(self))
     }
 }
 

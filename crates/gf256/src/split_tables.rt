@@ -1558,6 +1558,7 @@ pub fn split_product(multiplier: u8, x: u8) -> u8
     entry(rows.low0, rows.low8, x % 16) ^ entry(rows.high0, rows.high8, x / 16)
 }
 
+#[tactic(auto, unfolding(crate::specs::Field::entry_of))]
 fn entry(first: u64, second: u64, place: u8) -> u8
     ensures { result ≡ entry_of first second place }
 {

@@ -1,1 +1,2 @@
+pub mod Inverses
 pub mod Planned

@@ -9,7 +9,7 @@ ghost use Rattle.column.specs.Loss.{KnownLoss};
 ghost use Rattle.plans.specs.Plans.{alone, with_data, plan_of, asked_of, mixed};
 
 use column::{Device, Lost};
-use gf256::{Element, Inverse};
+use gf256::Element;
 use losses::{Plan, Rule};
 use shape::Geometry;
 
@@ -85,13 +85,11 @@ fn power_of_disk(x: usize) -> Element
 }
 
 // 02^-x. A power of 02 is never 00, so it has an inverse.
+#[tactic(auto, using(crate::proofs::Inverses::power_inverse))]
 fn over_power(x: usize) -> Element
     ensures { result.0 ≡ over_power x }
 {
-    match power_of_disk(x).inverse() {
-        Inverse::Is(over) => over,
-        Inverse::None => unreachable!(),
-    }
+    power_of_disk(x).inverse().unwrap()
 }
 
 // A and B of equations 17 and 18. 02^(y-x) + 01 has an inverse, since the disks are different.
@@ -101,9 +99,6 @@ fn coefficients(x: usize, y: usize) -> Rule
 {
     let over_x = over_power(x);
     let ratio = power_of_disk(y).product(over_x);
-    let scale = match ratio.sum(Element(1)).inverse() {
-        Inverse::Is(scale) => scale,
-        Inverse::None => unreachable!(),
-    };
+    let scale = ratio.sum(Element(1)).inverse().unwrap();
     Rule::Mixed(ratio.product(scale), over_x.product(scale))
 }

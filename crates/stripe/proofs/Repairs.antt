@@ -4,6 +4,7 @@ use mathlib.Core.Path.{◌≡◌, refl, sym, ap, subst, ◌∙◌}
 use mathlib.Core.Logic.{◌≢◌, ◌⊎◌, ⊎_elim}
 use mathlib.Core.List.{List, [], ◌∷◌}
 use Prim.Native.Nat.{ℕ}
+use Rattle.std.specs.Prelude.{Option, Some, None}
 use native.Mathlib.Omega.{arith}
 use lib.ListN.{length}
 use Rattle.base.specs.Choice.{choose}
@@ -17,7 +18,6 @@ use Rattle.shape.specs.declared.Geometry.{Geometry}
 use Rattle.shape.specs.Refusals.{library, shape_refusals, encode_refusal}
 use Rattle.shape.proofs.Places.{length_lift, lift_same}
 use Rattle.shape.proofs.Refused.{well_shaped}
-use Rattle.verdict.specs.declared.Faulty.{Faulty}
 use Rattle.verdict.specs.Faulty.{faulty_of}
 use Rattle.verdict.specs.Summary.{summary}
 use Rattle.compare.specs.Compare.{verdicts, summary_of}
@@ -27,9 +27,9 @@ use Rattle.compare.proofs.Faulty.{Names, summary_known, faulty_right, clear_name
 use Rattle.stripe.specs.Stripe.{rebuilt, mended_on, repaired}
 use Rattle.stripe.specs.Calls.{after_rebuild, after_repair, RebuildCall, RepairCall}
 
-mended_long : (g : Geometry) (f : Faulty) (s : List ℕ) → length (mended_on g f s) ≡ length s
-mended_long g (Faulty.One d) s = length_lift g _ s
-mended_long g Faulty.None s = refl
+mended_long : (g : Geometry) (f : Option Device) (s : List ℕ) → length (mended_on g f s) ≡ length s
+mended_long g (Some d) s = length_lift g _ s
+mended_long g None s = refl
 
 module _ (g : Geometry) (s : List ℕ) where
   pub repaired_long : length (repaired g s) ≡ length s
@@ -69,7 +69,7 @@ module _ (g : Geometry) (s : List ℕ) where
       repair_names =
           left_done (repair_refusal g s) (repaired g s) s accepted
           ∙ ap (λ (v : ℕ). mended_on g (faulty_of v) s) names.is
-          ∙ ap (λ (f : Faulty). mended_on g f s) (faulty_right d)
+          ∙ ap (λ (f : Option Device). mended_on g f s) (faulty_right d)
           ∙ lift_same g s (mend_is_rebuild g.n (well_shaped g s (repair_accepted accepted).fits).disks d names.known)
           ∙ sym (left_done (rebuild_refusal g (length s) (One d)) (rebuilt g (One d) s) s rebuild_accepted)
 
@@ -95,15 +95,15 @@ module _ (g : Geometry) (s : List ℕ) {k : ℕ} (first : k ≡ encode_refusal g
       accepted : repair_refusal g s ≡ 0
       accepted = sym order ∙ clear
 
-      pub named_rebuilds : {d : Device} {q : ℕ} {t : List ℕ} → faulty_of v ≡ Faulty.One d → RebuildCall g (One d) s q t → RepairCall g s q t
+      pub named_rebuilds : {d : Device} {q : ℕ} {t : List ℕ} → faulty_of v ≡ Some d → RebuildCall g (One d) s q t → RepairCall g s q t
       named_rebuilds {d} {q} {t} names call = ⊎_elim never rebuilds (repair_accepted g s accepted).told
         where
           never : summary (verdicts g s) ≡ 0 → RepairCall g s q t
-          never e = let wrong : Faulty.One d ≡ Faulty.None = sym names ∙ ap faulty_of (is ∙ e) in let z : ◌≡◌ {A = ℕ} 0 1 = cc in absurd (omega arith)
+          never e = let wrong : Some d ≡ None = sym names ∙ ap faulty_of (is ∙ e) in let z : ◌≡◌ {A = ℕ} 0 1 = cc in absurd (omega arith)
 
           rebuilds : (d : Device) × Names g.n (summary (verdicts g s)) d → RepairCall g s q t
           rebuilds h =
-              let one : Faulty.One h.0 ≡ Faulty.One d = sym (faulty_right h.0) ∙ ap faulty_of (sym (is ∙ h.1.is)) ∙ names in
+              let one : Some h.0 ≡ Some d = sym (faulty_right h.0) ∙ ap faulty_of (sym (is ∙ h.1.is)) ∙ names in
               let same : h.0 ≡ d = cc in
               let known = subst (Names g.n (summary (verdicts g s))) same h.1 in
               record {
@@ -111,7 +111,7 @@ module _ (g : Geometry) (s : List ℕ) {k : ℕ} (first : k ≡ encode_refusal g
                 stripe = call.stripe ∙ sym (repair_names g s accepted d known);
               }
 
-      pub none_stays : faulty_of v ≡ Faulty.None → RepairCall g s 0 s
+      pub none_stays : faulty_of v ≡ None → RepairCall g s 0 s
       none_stays e = ⊎_elim stays never (repair_accepted g s accepted).told
         where
           stays : summary (verdicts g s) ≡ 0 → RepairCall g s 0 s
@@ -119,6 +119,6 @@ module _ (g : Geometry) (s : List ℕ) {k : ℕ} (first : k ≡ encode_refusal g
 
           never : (d : Device) × Names g.n (summary (verdicts g s)) d → RepairCall g s 0 s
           never h =
-              let wrong : Faulty.One h.0 ≡ Faulty.None = sym (faulty_right h.0) ∙ ap faulty_of (sym (is ∙ h.1.is)) ∙ e in
+              let wrong : Some h.0 ≡ None = sym (faulty_right h.0) ∙ ap faulty_of (sym (is ∙ h.1.is)) ∙ e in
               let z : ◌≡◌ {A = ℕ} 0 1 = cc in
               absurd (omega arith)

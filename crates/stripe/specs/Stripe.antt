@@ -1,12 +1,10 @@
 -- What encode, rebuild and repair make of a stripe where they are not refused: functions on columns, lifted to the buffer.
-use Rattle.std.specs.Prelude.{ℕ, List}
+use Rattle.std.specs.Prelude.{ℕ, List, Option, Some, None}
 use Rattle.column.specs.declared.Device.{Device}
 use Rattle.column.specs.declared.Lost.{Lost}
 use Rattle.column.specs.Column.{reed_solomon, encode_column, rebuild_column, mend_column}
 use Rattle.shape.specs.declared.Geometry.{Geometry}
 use Rattle.shape.specs.Layout.{lift}
-use Rattle.verdict.specs.declared.Faulty.{Faulty}
-use Rattle.verdict.specs.declared.Faulty.TheVariants.{One, None}
 use Rattle.verdict.specs.Faulty.{faulty_of}
 use Rattle.verdict.specs.Summary.{summary}
 use Rattle.compare.specs.Compare.{verdicts}
@@ -21,8 +19,8 @@ rebuilt g lost s = lift g (λ i c. rebuild_column reed_solomon g.n lost c) s
 abbrev pub mended : Geometry → Device → List ℕ → List ℕ
 mended g d s = lift g (λ i c. mend_column g.n d c) s
 
-abbrev pub mended_on : Geometry → Faulty → List ℕ → List ℕ
-mended_on g (One d) s = mended g d s
+abbrev pub mended_on : Geometry → Option Device → List ℕ → List ℕ
+mended_on g (Some d) s = mended g d s
 mended_on g None s = s
 
 abbrev pub repaired : Geometry → List ℕ → List ℕ

@@ -10,7 +10,6 @@ use devices::Naming;
 use losses::Plan;
 use plans::Asked;
 use shape::Geometry;
-use verdict::Faulty;
 
 // What a check answers: a refusal's number, or the summary of the verdicts: 0 if all columns are clean,
 // the common verdict if all unclean ones agree, and 4, mixed, otherwise.
@@ -83,7 +82,7 @@ pub fn repair(g: Geometry, stripe: &mut [u8]) -> u8
         return unclear;
     }
     match verdict::faulty_device(summary) {
-        Faulty::One(device) => rebuild(g, stripe, Lost::One(device)),
-        Faulty::None => 0,
+        Some(device) => rebuild(g, stripe, Lost::One(device)),
+        None => 0,
     }
 }

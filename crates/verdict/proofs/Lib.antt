@@ -1,3 +1,4 @@
 pub mod Summary
 pub mod Agreement
 pub mod Common
+pub mod Divided

@@ -1,60 +1,51 @@
-// The verdict that P* and Q* give, on one column and on the columns of a chunk, and the summary.
+// The verdict that P* and Q* give, on one column and on the columns of a chunk, and the summary. Both are
+// numbers, since C lends the buffers that verdicts are written to, and reads the summary.
 #![tactic(auto)]
 
-ghost use Rattle.std.specs.Prelude.{false, ◌≢◌, ◌≡◌, length, get_or};
-ghost use Rattle.base.specs.Table.{tabulate};
+ghost use Rattle.std.specs.Prelude.{false, ◌≢◌, ◌≡◌, length, get_or, IfSome};
 ghost use Rattle.gf256.specs.Field.{first_exponent};
 ghost use Rattle.column.specs.Column.{verdict_of, located};
 ghost use Rattle.chunk.specs.Chunk.{width, each, all_zero};
 ghost use Rattle.verdict.specs.Faulty.{faulty_of};
-ghost use Rattle.verdict.specs.Summary.{mixed, joined, WithSummary};
+ghost use Rattle.verdict.specs.Summary.{joined, WithSummary};
 ghost use Rattle.verdict.specs.Verdicts.{verdicts_of, unclean};
 
 use chunk::WIDTH;
 use column::Device;
-use gf256::{Element, Inverse, Logarithm};
+use gf256::Element;
 
 // The four rows of the paper's table, and equation 27. Neither P* nor Q* is 00 where they are divided,
 // so P* has an inverse and the quotient a logarithm.
-#[tactic(auto, using(column::proofs::Verdicts::row_clean, column::proofs::Verdicts::row_p, column::proofs::Verdicts::row_q))]
+#[tactic(auto, using(column::proofs::Verdicts::row_clean, column::proofs::Verdicts::row_p, column::proofs::Verdicts::row_q, crate::proofs::Divided::inverse_some, crate::proofs::Divided::ratio_nonzero, crate::proofs::Divided::row_ratio))]
 pub fn verdict_of(n: usize, p: Element, q: Element) -> u16
     ensures { result ≡ verdict_of n p.0 q.0 }
 {
-    if p.0 == 0 {
-        if q.0 == 0 {
-            return 0;
-        }
-        return 2;
-    }
-    if q.0 == 0 {
-        return 1;
-    }
-    match p.inverse() {
-        Inverse::Is(over_p) => located(n, q.product(over_p)),
-        Inverse::None => unreachable!(),
+    match (p.0, q.0) {
+        (0, 0) => 0,
+        (0, _) => 2,
+        (_, 0) => 1,
+        _ => located(n, q.product(p.inverse().unwrap())),
     }
 }
 
 // The data disk with this Q*/P*, and 3 where there is none.
+#[tactic(auto, using(gf256::proofs::Powers::exponent_below, crate::proofs::Divided::logarithm_some, crate::proofs::Divided::located_within, crate::proofs::Divided::located_beyond))]
 fn located(n: usize, ratio: Element) -> u16
     requires { ratio.0 ≢ 0 }
     ensures { result ≡ located (first_exponent ratio.0 0 n) }
 {
-    match ratio.logarithm() {
-        Logarithm::Is(z) => {
-            if n <= z as usize {
-                return 3;
-            }
-            (16 + z) as u16
-        }
-        Logarithm::None => unreachable!(),
+    let z = ratio.logarithm().unwrap();
+    if n <= z as usize {
+        return 3;
     }
+    (16 + z) as u16
 }
 
 // The summary where unclean columns do not agree.
 const MIXED: u16 = 4;
 
 // The summary of two stretches of columns from their summaries. A clean column, the common case, is told first.
+#[tactic(auto, using(crate::proofs::Summary::joined_left, crate::proofs::Summary::joined_right, crate::proofs::Summary::joined_same, crate::proofs::Summary::joined_differ))]
 pub fn joined(found: u16, next: u16) -> u16
     ensures { result ≡ joined found next }
 {
@@ -67,26 +58,16 @@ pub fn joined(found: u16, next: u16) -> u16
     if found == next { found } else { MIXED }
 }
 
-// What a summary names.
-#[derive(Clone, Copy)]
-pub enum Faulty {
-    One(Device),
-    None,
-}
-
-pub fn faulty_device(summary: u16) -> Faulty
+// The device that a summary names, where it names one.
+pub fn faulty_device(summary: u16) -> Option<Device>
     ensures { result ≡ faulty_of summary }
 {
-    if summary == 1 {
-        return Faulty::One(Device::P);
+    match summary {
+        1 => Some(Device::P),
+        2 => Some(Device::Q),
+        16.. => Some(Device::Data((summary - 16) as usize)),
+        _ => None,
     }
-    if summary == 2 {
-        return Faulty::One(Device::Q);
-    }
-    if summary < 16 {
-        return Faulty::None;
-    }
-    Faulty::One(Device::Data((summary - 16) as usize))
 }
 
 // The verdicts on the columns of a chunk whose P* and Q* are p and q, one for each place of the
@@ -97,22 +78,11 @@ pub fn verdicts_of(n: usize, p: &[u8; WIDTH], q: &[u8; WIDTH], guess: u16, room:
 {
     if room.len() == WIDTH {
         if chunk::are_zero(p, q) {
-            fill_zero(room);
+            room.fill(0);
             return 0;
         }
     }
     verdicts_by_place(n, p, q, guess, room)
-}
-
-fn fill_zero(room: &mut [u16])
-    requires { length room.old ≡ width }
-    ensures { room.new ≡ tabulate width (λ j. 0) }
-{
-    let mut i = 0;
-    while i < WIDTH {
-        room[i] = 0;
-        i += 1;
-    }
 }
 
 // The same, without that test. Where one device is spoiled, all unclean columns of a whole chunk agree,
@@ -126,89 +96,67 @@ pub fn verdicts_by_place(
 ) -> u16
     ensures { WithSummary (verdicts_of n p.now q.now (length room.old)) result room.new }
 {
-    let p_bytes: &[u8] = p;
-    let q_bytes: &[u8] = q;
     if room.len() == WIDTH {
-        let common = common_verdict(n, *p, *q, guess);
-        if common != MIXED {
+        if let Some(common) = common_verdict(n, *p, *q, guess) {
             fill_unclean(p, q, common, room);
             return common;
         }
     }
-    one_by_one(n, p_bytes, q_bytes, room)
+    one_by_one(n, p, q, room)
 }
 
-// The common verdict of the unclean columns of a chunk, 0 where all are clean, and MIXED where they may
+// The common verdict of the unclean columns of a chunk, 0 where all are clean, and none where they may
 // not agree. A verdict depends on Q*/P* alone, so that they agree where Q* is the same multiple of P* at
 // every place. The multiple that is guessed is tried first: it needs no division.
-fn common_verdict(n: usize, p: [u8; WIDTH], q: [u8; WIDTH], guess: u16) -> u16
-    ensures { result ≢ mixed → WithSummary (verdicts_of n p q width) result (each (unclean result p q)) }
+fn common_verdict(n: usize, p: [u8; WIDTH], q: [u8; WIDTH], guess: u16) -> Option<u16>
+    ensures { IfSome result (λ v. WithSummary (verdicts_of n p q width) v (each (unclean v p q))) }
 {
     if chunk::are_zero(&p, &p) {
-        if chunk::are_zero(&q, &q) { 0 } else { 2 }
-    } else {
-        let by_guess = verdict_by(n, p, q, guessed(guess));
-        if by_guess != MIXED {
-            by_guess
-        } else {
-            verdict_by(n, p, q, ratio(largest_pair(&p, &q)))
-        }
+        return Some(if chunk::are_zero(&q, &q) { 0 } else { 2 });
     }
+    verdict_by(n, p, q, guessed(guess)).or_else(|| verdict_by(n, p, q, ratio(largest_pair(&p, &q))))
 }
 
-// The common verdict where Q* is c P* at every place, and MIXED where it is not.
-fn verdict_by(n: usize, p: [u8; WIDTH], q: [u8; WIDTH], c: Element) -> u16
+// The common verdict where Q* is c P* at every place, and none where it is not.
+fn verdict_by(n: usize, p: [u8; WIDTH], q: [u8; WIDTH], c: Element) -> Option<u16>
     requires { all_zero p p ≡ false }
-    ensures { result ≢ mixed → WithSummary (verdicts_of n p q width) result (each (unclean result p q)) }
+    ensures { IfSome result (λ v. WithSummary (verdicts_of n p q width) v (each (unclean v p q))) }
 {
     let mut rest = q;
     products::add_product(&mut rest, c, p);
     if !chunk::are_zero(&rest, &rest) {
-        MIXED
+        None
     } else if c.0 == 0 {
-        1
+        Some(1)
     } else {
-        located(n, c)
+        Some(located(n, c))
     }
 }
 
 // Q*/P* of the disk that a verdict names, where that is one bit. 00, as of P, elsewhere.
 fn guessed(verdict: u16) -> Element {
-    if verdict < 16 {
-        return Element(0);
+    match verdict {
+        16..24 => Element(1u8 << (verdict - 16)),
+        _ => Element(0),
     }
-    if 24 <= verdict {
-        return Element(0);
-    }
-    Element(1u8 << (verdict - 16))
 }
 
 // Q*/P*, of a pair P* and Q*, and 00 where P* is 00.
 fn ratio(both: u16) -> Element {
-    match Element((both / 256) as u8).inverse() {
-        Inverse::Is(over_p) => Element((both % 256) as u8).product(over_p),
-        Inverse::None => Element(0),
-    }
+    let [p, q] = both.to_be_bytes();
+    Element(p)
+        .inverse()
+        .map_or(Element(0), |over_p| Element(q).product(over_p))
 }
 
 // The largest pair: its P* is not 00 where any is not. No place is tested by itself, so that the loop
 // becomes vector code.
 fn largest_pair(p: &[u8; WIDTH], q: &[u8; WIDTH]) -> u16 {
     let mut largest = 0;
-    let mut j = 0;
-    while j < WIDTH {
-        let both = pair(p[j], q[j]);
-        if largest < both {
-            largest = both;
-        }
-        j += 1;
+    for j in 0..WIDTH {
+        largest = largest.max(u16::from_be_bytes([p[j], q[j]]));
     }
     largest
-}
-
-// P* and Q* of one column as one number.
-fn pair(p: u8, q: u8) -> u16 {
-    p as u16 * 256 + q as u16
 }
 
 // v where P* and Q* are not both 00, and 0 elsewhere.
@@ -216,10 +164,8 @@ fn fill_unclean(p: &[u8; WIDTH], q: &[u8; WIDTH], v: u16, room: &mut [u16])
     requires { length room.old ≡ width }
     ensures { room.new ≡ each (unclean v p.now q.now) }
 {
-    let mut j = 0;
-    while j < WIDTH {
+    for j in 0..WIDTH {
         room[j] = if p[j] | q[j] == 0 { 0 } else { v };
-        j += 1;
     }
 }
 
@@ -227,12 +173,10 @@ fn one_by_one(n: usize, p: &[u8], q: &[u8], room: &mut [u16]) -> u16
     ensures { WithSummary (verdicts_of n p.now q.now (length room.old)) result room.new }
 {
     let mut found = 0;
-    let mut j = 0;
-    while j < room.len() {
+    for j in 0..room.len() {
         let verdict = verdict_of(n, element_at(p, j), element_at(q, j));
         room[j] = verdict;
         found = joined(found, verdict);
-        j += 1;
     }
     found
 }
@@ -241,8 +185,5 @@ fn one_by_one(n: usize, p: &[u8], q: &[u8], room: &mut [u16]) -> u16
 fn element_at(bytes: &[u8], j: usize) -> Element
     ensures { result.0 ≡ get_or bytes.now j 0 }
 {
-    if bytes.len() <= j {
-        return Element(0);
-    }
-    Element(bytes[j])
+    Element(bytes.get(j).copied().unwrap_or(0))
 }

@@ -13,10 +13,10 @@ returns-then-unclear-ne0 c =
     let a = c.args in
     summary_refuses a.g a.stripe.now c.encode_refusal-refused.ensures c.if-refused-ne0.false c.summary_of-summary.ensures c.summary_refusal-unclear.ensures c.if-unclear-ne0.true
 
-pub returns-in-One : goal.returns-in-One
-returns-in-One c =
+pub returns-in-Some : goal.returns-in-Some
+returns-in-Some c =
     let a = c.args in
-    named_rebuilds a.g a.stripe.now c.encode_refusal-refused.ensures c.if-refused-ne0.false c.summary_of-summary.ensures c.summary_refusal-unclear.ensures c.if-unclear-ne0.false (sym c.faulty_device.ensures ∙ c.in-One.is) c.rebuild.ensures
+    named_rebuilds a.g a.stripe.now c.encode_refusal-refused.ensures c.if-refused-ne0.false c.summary_of-summary.ensures c.summary_refusal-unclear.ensures c.if-unclear-ne0.false (sym c.faulty_device.ensures ∙ c.in-Some.is) c.rebuild.ensures
 
 pub returns-in-None : goal.returns-in-None
 returns-in-None c =

@@ -14,7 +14,7 @@ loop-j-preserved c =
     let l = c.loop-j in
     let value : c.if-p-j-eq0.room ≡ unclean a.v a.p.now a.q.now l.j =
     rw (← or_zero) (elim c.if-p-j-eq0.branch [ then-p-j-eq0 w ↦ rw (eq-eqb _ 0 w.if-p-j-eq0.true) w.room-is | else-p-j-eq0 w ↦ rw (ne_eqb _ 0 w.if-p-j-eq0.false) w.room-is ]) in
-    (omega arith, fill_more l.invariant.1 (omega arith) value)
+    fill_more l.invariant (omega arith) value
 
 pub returns : goal.returns
-returns c = fill_all c.loop-j.invariant.1 (omega arith)
+returns c = fill_all c.loop-j.invariant (omega arith)

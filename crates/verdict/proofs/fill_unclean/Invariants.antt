@@ -1,12 +1,8 @@
--- `verdict::fill_unclean` meets its contract. The loop's invariant: the places below j are filled. The measure is what is left.
-use Prim.Native.Nat.{◌-◌, ◌≤◌}
+-- `verdict::fill_unclean` meets its contract. The loop's invariant: the places below j are filled.
 use Rattle.base.proofs.Fill.{Filled}
 use Rattle.chunk.specs.Chunk.{width}
 use Rattle.verdict.specs.Verdicts.{unclean}
 use Rattle.verdict.proofs.fill_unclean.Given as goal
 
 abbrev pub invariant-loop-j : goal.invariant-loop-j
-invariant-loop-j l = (l.j ≤ width) × Filled (λ k old. unclean l.v l.p l.q k) width l.initial.room l.room l.j
-
-abbrev pub decreases-loop-j : goal.decreases-loop-j
-decreases-loop-j l = width - l.j
+invariant-loop-j l = Filled (λ k old. unclean l.v l.p l.q k) width l.initial.room l.room l.j

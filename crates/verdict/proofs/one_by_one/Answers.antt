@@ -5,13 +5,13 @@ use Rattle.verdict.proofs.Summary.{summary_filled_none, summary_filled_more, sum
 use Rattle.verdict.proofs.one_by_one.Goals as goal
 
 pub loop-j-init : goal.loop-j-init
-loop-j-init c = (omega arith, summary_filled_none refl)
+loop-j-init c = summary_filled_none refl
 
 pub loop-j-preserved : goal.loop-j-preserved
 loop-j-preserved c =
     let l = c.loop-j in
     let verdict = rw (c.element_at.ensures, c.element_at-in-loop-j.ensures) at c.verdict_of-verdict.ensures in
-    (omega arith, summary_filled_more l.invariant.1 (omega arith) verdict c.joined-found.ensures)
+    summary_filled_more l.invariant (omega arith) verdict c.joined-found.ensures
 
 pub returns : goal.returns
-returns c = summary_filled_all c.loop-j.invariant.1 (omega arith)
+returns c = summary_filled_all c.loop-j.invariant (omega arith)

@@ -12,7 +12,7 @@ use Rattle.verdict.proofs.Common.{told_multiple}
 use Rattle.verdict.proofs.verdict_by.Goals as goal
 
 pub returns-then-c-eq0 : goal.returns-then-c-eq0
-returns-then-c-eq0 c _ =
+returns-then-c-eq0 c =
     let a = c.args in
     let none : a.c.0 ≡ 0 = omega arith in
     let p = c.well_formed.1.0 in
@@ -21,7 +21,7 @@ returns-then-c-eq0 c _ =
     (λ x other h. ap (verdict_of _ x) (ap (λ (r : ℕ). product r x) none ∙ zero_product x) ∙ row_p _ x other)
 
 pub returns-else-c-eq0 : goal.returns-else-c-eq0
-returns-else-c-eq0 c _ =
+returns-else-c-eq0 c =
     let a = c.args in
     let p = c.well_formed.1.0 in
     told_multiple a.n a.p a.q a.c.0 (λ j. (elem_Fits w8 w8 a.p p.0 j p.1.1 tt).fits) c.requires
