@@ -1,6 +1,6 @@
 // A chunk: WIDTH bytes of a block at once, worked on place by place. A loop over the places has a
-// fixed length, so that it becomes vector code. What a function writes it first lends as a slice,
-// which compiles to nothing: it tells the proof how many bytes there are.
+// fixed length, so that it becomes vector code. It goes by the place: of what is written through an
+// `iter_mut` in a `zip`, the proof would know the length alone.
 #![tactic(auto)]
 
 ghost use Rattle.std.specs.Prelude.{◌≡◌, ◌≤◌, ltb, length, get_or};
@@ -21,13 +21,12 @@ pub fn load(from: &[u8]) -> [u8; WIDTH]
 {
     if from.len() < WIDTH {
         let mut part = [0u8; WIDTH];
-        let count = from.len();
-        copy(&mut part, from, count);
-        part[count] = 0;
+        part[..from.len()].copy_from_slice(from);
+        part[from.len()] = 0;
         return part;
     }
     let mut to = [0u8; WIDTH];
-    copy(&mut to, from, WIDTH);
+    to.copy_from_slice(&from[..WIDTH]);
     to
 }
 
@@ -37,21 +36,9 @@ pub fn store(to: &mut [u8], c: [u8; WIDTH])
 {
     if to.len() < WIDTH {
         let part = c;
-        let count = to.len();
-        copy(to, &part, count);
+        to.copy_from_slice(&part[..to.len()]);
     } else {
-        copy(to, &c, WIDTH);
-    }
-}
-
-fn copy(to: &mut [u8], from: &[u8], count: usize)
-    requires { (count ≤ length to.old) × (count ≤ length from.now) }
-    ensures { to.new ≡ tabulate (length to.old) (λ j. choose (ltb j count) (get_or from.now j 0) (get_or to.old j 0)) }
-{
-    let mut j = 0;
-    while j < count {
-        to[j] = from[j];
-        j += 1;
+        to[..WIDTH].copy_from_slice(&c);
     }
 }
 
@@ -59,11 +46,8 @@ fn copy(to: &mut [u8], from: &[u8], count: usize)
 pub fn add(a: &mut [u8; WIDTH], d: &[u8; WIDTH])
     ensures { a.new ≡ plus a.old d.now }
 {
-    let _a: &[u8] = a;
-    let mut j = 0;
-    while j < WIDTH {
+    for j in 0..WIDTH {
         a[j] = Element(a[j]).sum(Element(d[j])).0;
-        j += 1;
     }
 }
 
@@ -71,14 +55,10 @@ pub fn add(a: &mut [u8; WIDTH], d: &[u8; WIDTH])
 pub fn add_disk(p: &mut [u8; WIDTH], q: &mut [u8; WIDTH], d: &[u8; WIDTH])
     ensures { (p.new ≡ plus p.old d.now) × (q.new ≡ double_plus q.old d.now) }
 {
-    let _p: &[u8] = p;
-    let _q: &[u8] = q;
-    let mut i = 0;
-    while i < WIDTH {
+    for i in 0..WIDTH {
         let x = Element(d[i]);
         p[i] = Element(p[i]).sum(x).0;
         q[i] = Element(q[i]).double().sum(x).0;
-        i += 1;
     }
 }
 
@@ -87,15 +67,11 @@ pub fn add_disk(p: &mut [u8; WIDTH], q: &mut [u8; WIDTH], d: &[u8; WIDTH])
 pub fn add_two_disks(p: &mut [u8; WIDTH], q: &mut [u8; WIDTH], d: &[u8; WIDTH], e: &[u8; WIDTH])
     ensures { (p.new ≡ plus (plus p.old d.now) e.now) × (q.new ≡ double_plus (double_plus q.old d.now) e.now) }
 {
-    let _p: &[u8] = p;
-    let _q: &[u8] = q;
-    let mut j = 0;
-    while j < WIDTH {
+    for j in 0..WIDTH {
         let x = Element(d[j]);
         let y = Element(e[j]);
         p[j] = Element(p[j]).sum(x).sum(y).0;
         q[j] = Element(q[j]).double().sum(x).double().sum(y).0;
-        j += 1;
     }
 }
 
@@ -104,10 +80,8 @@ pub fn are_zero(p: &[u8; WIDTH], q: &[u8; WIDTH]) -> bool
     ensures { result ≡ all_zero p.now q.now }
 {
     let mut r = 0;
-    let mut j = 0;
-    while j < WIDTH {
+    for j in 0..WIDTH {
         r = r | p[j] | q[j];
-        j += 1;
     }
     r == 0
 }

@@ -1,5 +1,4 @@
--- `chunk::add_disk` meets its contract. The loop's invariant: the places below i are summed. The measure is what is left.
-use Prim.Native.Nat.{◌-◌, ◌≤◌}
+-- `chunk::add_disk` meets its contract. The loop's invariant: the places below i are summed.
 use lib.ListN.{get_or}
 use Rattle.gf256.specs.Field.{sum, double}
 use Rattle.base.proofs.Fill.{Filled}
@@ -7,9 +6,5 @@ use Rattle.chunk.specs.Chunk.{width}
 use Rattle.chunk.proofs.add_disk.Given as goal
 
 abbrev pub invariant-loop-i : goal.invariant-loop-i
-invariant-loop-i l = (l.i ≤ width)
-    × Filled (λ j v. sum v (get_or l.d j 0)) width l.initial.p l.p l.i
+invariant-loop-i l = Filled (λ j v. sum v (get_or l.d j 0)) width l.initial.p l.p l.i
     × Filled (λ j v. sum (double v) (get_or l.d j 0)) width l.initial.q l.q l.i
-
-abbrev pub decreases-loop-i : goal.decreases-loop-i
-decreases-loop-i l = width - l.i

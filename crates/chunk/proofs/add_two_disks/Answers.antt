@@ -11,6 +11,6 @@ use Rattle.chunk.proofs.add_two_disks.Goals as goal
 pub returns : goal.returns
 returns c =
     let l = c.loop-j in (
-      fill_all l.invariant.1 (omega arith) ∙ tabulate_same width (λ j h. ap₂ sum (sym (each_at _ j h)) refl),
-      fill_all l.invariant.2 (omega arith) ∙ tabulate_same width (λ j h. ap₂ sum (ap double (sym (each_at _ j h))) refl),
+      fill_all l.invariant.0 (omega arith) ∙ tabulate_same width (λ j h. ap₂ sum (sym (each_at _ j h)) refl),
+      fill_all l.invariant.1 (omega arith) ∙ tabulate_same width (λ j h. ap₂ sum (ap double (sym (each_at _ j h))) refl),
     )

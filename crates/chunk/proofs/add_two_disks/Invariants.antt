@@ -1,5 +1,4 @@
--- `chunk::add_two_disks` meets its contract. The loop's invariant: in the places below j both disks are summed. The measure is what is left.
-use Prim.Native.Nat.{◌-◌, ◌≤◌}
+-- `chunk::add_two_disks` meets its contract. The loop's invariant: in the places below j both disks are summed.
 use lib.ListN.{get_or}
 use Rattle.gf256.specs.Field.{sum, double}
 use Rattle.base.proofs.Fill.{Filled}
@@ -7,9 +6,5 @@ use Rattle.chunk.specs.Chunk.{width}
 use Rattle.chunk.proofs.add_two_disks.Given as goal
 
 abbrev pub invariant-loop-j : goal.invariant-loop-j
-invariant-loop-j l = (l.j ≤ width)
-    × Filled (λ j v. sum (sum v (get_or l.d j 0)) (get_or l.e j 0)) width l.initial.p l.p l.j
+invariant-loop-j l = Filled (λ j v. sum (sum v (get_or l.d j 0)) (get_or l.e j 0)) width l.initial.p l.p l.j
     × Filled (λ j v. sum (double (sum (double v) (get_or l.d j 0))) (get_or l.e j 0)) width l.initial.q l.q l.j
-
-abbrev pub decreases-loop-j : goal.decreases-loop-j
-decreases-loop-j l = width - l.j
