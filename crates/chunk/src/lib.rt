@@ -3,9 +3,7 @@
 // `iter_mut` in a `zip`, the proof would know the length alone.
 #![tactic(auto)]
 
-ghost use Rattle.std.specs.Prelude.{◌≡◌, ◌≤◌, ltb, length, get_or};
-ghost use Rattle.base.specs.Choice.{choose};
-ghost use Rattle.base.specs.Table.{tabulate};
+ghost use Rattle.std.specs.Prelude.{◌≡◌, get_or};
 ghost use Rattle.chunk.specs.Chunk.{width, each, stored, plus, double_plus, all_zero};
 
 use gf256::Element;
@@ -51,31 +49,46 @@ pub fn add(a: &mut [u8; WIDTH], d: &[u8; WIDTH])
     }
 }
 
-// One more disk in both sums: p + d, and by Horner's rule 02 q + d.
-pub fn add_disk(p: &mut [u8; WIDTH], q: &mut [u8; WIDTH], d: &[u8; WIDTH])
-    ensures { (p.new ≡ plus p.old d.now) × (q.new ≡ double_plus q.old d.now) }
-{
-    for i in 0..WIDTH {
-        let x = Element(d[i]);
-        p[i] = Element(p[i]).sum(x).0;
-        q[i] = Element(q[i]).double().sum(x).0;
+// Both sums of a chunk of columns: P and Q, P* and Q*, or the sums over some of the disks.
+#[derive(Clone, Copy)]
+pub struct Sums {
+    pub p: [u8; WIDTH],
+    pub q: [u8; WIDTH],
+}
+
+impl Sums {
+    // Those of no disk.
+    pub const ZERO: Sums = Sums {
+        p: [0; WIDTH],
+        q: [0; WIDTH],
+    };
+
+    // One more disk: p + d, and by Horner's rule 02 q + d.
+    pub fn add_disk(&mut self, d: &[u8; WIDTH])
+        ensures { (self.new.p ≡ plus self.old.p d.now) × (self.new.q ≡ double_plus self.old.q d.now) }
+    {
+        for i in 0..WIDTH {
+            let x = Element(d[i]);
+            self.p[i] = Element(self.p[i]).sum(x).0;
+            self.q[i] = Element(self.q[i]).double().sum(x).0;
+        }
+    }
+
+    // Two more disks, the higher one first: p + d + e, and by Horner's rule (equation 21)
+    // 02 (02 q + d) + e. Both are read before the first step.
+    pub fn add_two_disks(&mut self, d: &[u8; WIDTH], e: &[u8; WIDTH])
+        ensures { (self.new.p ≡ plus (plus self.old.p d.now) e.now) × (self.new.q ≡ double_plus (double_plus self.old.q d.now) e.now) }
+    {
+        for j in 0..WIDTH {
+            let x = Element(d[j]);
+            let y = Element(e[j]);
+            self.p[j] = Element(self.p[j]).sum(x).sum(y).0;
+            self.q[j] = Element(self.q[j]).double().sum(x).double().sum(y).0;
+        }
     }
 }
 
-// Two more disks in both sums, the higher one first: p + d + e, and by Horner's rule (equation 21)
-// 02 (02 q + d) + e. Both are read before the first step.
-pub fn add_two_disks(p: &mut [u8; WIDTH], q: &mut [u8; WIDTH], d: &[u8; WIDTH], e: &[u8; WIDTH])
-    ensures { (p.new ≡ plus (plus p.old d.now) e.now) × (q.new ≡ double_plus (double_plus q.old d.now) e.now) }
-{
-    for j in 0..WIDTH {
-        let x = Element(d[j]);
-        let y = Element(e[j]);
-        p[j] = Element(p[j]).sum(x).sum(y).0;
-        q[j] = Element(q[j]).double().sum(x).double().sum(y).0;
-    }
-}
-
-// Whether both are 00 at every place.
+// Whether both are 00 at every place. They need not be the sums of one chunk: of one alone it is asked twice.
 pub fn are_zero(p: &[u8; WIDTH], q: &[u8; WIDTH]) -> bool
     ensures { result ≡ all_zero p.now q.now }
 {

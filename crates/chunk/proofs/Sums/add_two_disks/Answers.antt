@@ -1,4 +1,4 @@
--- `chunk::add_two_disks` meets its contract.
+-- `chunk::Sums::add_two_disks` meets its contract.
 use mathlib.Core.Path.{refl, sym, ap, ap₂, ◌∙◌}
 use native.Mathlib.Omega.{arith}
 use Rattle.gf256.specs.Field.{sum, double}
@@ -6,7 +6,7 @@ use Rattle.base.proofs.Fill.{fill_all}
 use Rattle.base.proofs.Table.{tabulate_same}
 use Rattle.chunk.specs.Chunk.{width}
 use Rattle.chunk.proofs.Laws.{each_at}
-use Rattle.chunk.proofs.add_two_disks.Goals as goal
+use Rattle.chunk.proofs.Sums.add_two_disks.Goals as goal
 
 pub returns : goal.returns
 returns c =
