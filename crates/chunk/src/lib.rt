@@ -1,11 +1,9 @@
 // A chunk: WIDTH bytes of a block at once, worked on place by place. A loop over the places has a
-// fixed length, so that it becomes vector code. What a function writes it first lends as a slice,
-// which compiles to nothing: it tells the proof how many bytes there are.
+// fixed length, so that it becomes vector code. It goes by the place: of what is written through an
+// `iter_mut` in a `zip`, the proof would know the length alone.
 #![tactic(auto)]
 
-ghost use Rattle.std.specs.Prelude.{◌≡◌, ◌≤◌, ltb, length, get_or};
-ghost use Rattle.base.specs.Choice.{choose};
-ghost use Rattle.base.specs.Table.{tabulate};
+ghost use Rattle.std.specs.Prelude.{◌≡◌, get_or};
 ghost use Rattle.chunk.specs.Chunk.{width, each, stored, plus, double_plus, all_zero};
 
 use gf256::Element;
@@ -21,13 +19,12 @@ pub fn load(from: &[u8]) -> [u8; WIDTH]
 {
     if from.len() < WIDTH {
         let mut part = [0u8; WIDTH];
-        let count = from.len();
-        copy(&mut part, from, count);
-        part[count] = 0;
+        part[..from.len()].copy_from_slice(from);
+        part[from.len()] = 0;
         return part;
     }
     let mut to = [0u8; WIDTH];
-    copy(&mut to, from, WIDTH);
+    to.copy_from_slice(&from[..WIDTH]);
     to
 }
 
@@ -37,21 +34,9 @@ pub fn store(to: &mut [u8], c: [u8; WIDTH])
 {
     if to.len() < WIDTH {
         let part = c;
-        let count = to.len();
-        copy(to, &part, count);
+        to.copy_from_slice(&part[..to.len()]);
     } else {
-        copy(to, &c, WIDTH);
-    }
-}
-
-fn copy(to: &mut [u8], from: &[u8], count: usize)
-    requires { (count ≤ length to.old) × (count ≤ length from.now) }
-    ensures { to.new ≡ tabulate (length to.old) (λ j. choose (ltb j count) (get_or from.now j 0) (get_or to.old j 0)) }
-{
-    let mut j = 0;
-    while j < count {
-        to[j] = from[j];
-        j += 1;
+        to[..WIDTH].copy_from_slice(&c);
     }
 }
 
@@ -59,55 +44,57 @@ fn copy(to: &mut [u8], from: &[u8], count: usize)
 pub fn add(a: &mut [u8; WIDTH], d: &[u8; WIDTH])
     ensures { a.new ≡ plus a.old d.now }
 {
-    let _a: &[u8] = a;
-    let mut j = 0;
-    while j < WIDTH {
+    for j in 0..WIDTH {
         a[j] = Element(a[j]).sum(Element(d[j])).0;
-        j += 1;
     }
 }
 
-// One more disk in both sums: p + d, and by Horner's rule 02 q + d.
-pub fn add_disk(p: &mut [u8; WIDTH], q: &mut [u8; WIDTH], d: &[u8; WIDTH])
-    ensures { (p.new ≡ plus p.old d.now) × (q.new ≡ double_plus q.old d.now) }
-{
-    let _p: &[u8] = p;
-    let _q: &[u8] = q;
-    let mut i = 0;
-    while i < WIDTH {
-        let x = Element(d[i]);
-        p[i] = Element(p[i]).sum(x).0;
-        q[i] = Element(q[i]).double().sum(x).0;
-        i += 1;
+// Both sums of a chunk of columns: P and Q, P* and Q*, or the sums over some of the disks.
+#[derive(Clone, Copy)]
+pub struct Sums {
+    pub p: [u8; WIDTH],
+    pub q: [u8; WIDTH],
+}
+
+impl Sums {
+    // Those of no disk.
+    pub const ZERO: Sums = Sums {
+        p: [0; WIDTH],
+        q: [0; WIDTH],
+    };
+
+    // One more disk: p + d, and by Horner's rule 02 q + d.
+    pub fn add_disk(&mut self, d: &[u8; WIDTH])
+        ensures { (self.new.p ≡ plus self.old.p d.now) × (self.new.q ≡ double_plus self.old.q d.now) }
+    {
+        for i in 0..WIDTH {
+            let x = Element(d[i]);
+            self.p[i] = Element(self.p[i]).sum(x).0;
+            self.q[i] = Element(self.q[i]).double().sum(x).0;
+        }
+    }
+
+    // Two more disks, the higher one first: p + d + e, and by Horner's rule (equation 21)
+    // 02 (02 q + d) + e. Both are read before the first step.
+    pub fn add_two_disks(&mut self, d: &[u8; WIDTH], e: &[u8; WIDTH])
+        ensures { (self.new.p ≡ plus (plus self.old.p d.now) e.now) × (self.new.q ≡ double_plus (double_plus self.old.q d.now) e.now) }
+    {
+        for j in 0..WIDTH {
+            let x = Element(d[j]);
+            let y = Element(e[j]);
+            self.p[j] = Element(self.p[j]).sum(x).sum(y).0;
+            self.q[j] = Element(self.q[j]).double().sum(x).double().sum(y).0;
+        }
     }
 }
 
-// Two more disks in both sums, the higher one first: p + d + e, and by Horner's rule (equation 21)
-// 02 (02 q + d) + e. Both are read before the first step.
-pub fn add_two_disks(p: &mut [u8; WIDTH], q: &mut [u8; WIDTH], d: &[u8; WIDTH], e: &[u8; WIDTH])
-    ensures { (p.new ≡ plus (plus p.old d.now) e.now) × (q.new ≡ double_plus (double_plus q.old d.now) e.now) }
-{
-    let _p: &[u8] = p;
-    let _q: &[u8] = q;
-    let mut j = 0;
-    while j < WIDTH {
-        let x = Element(d[j]);
-        let y = Element(e[j]);
-        p[j] = Element(p[j]).sum(x).sum(y).0;
-        q[j] = Element(q[j]).double().sum(x).double().sum(y).0;
-        j += 1;
-    }
-}
-
-// Whether both are 00 at every place.
+// Whether both are 00 at every place. They need not be the sums of one chunk: of one alone it is asked twice.
 pub fn are_zero(p: &[u8; WIDTH], q: &[u8; WIDTH]) -> bool
     ensures { result ≡ all_zero p.now q.now }
 {
     let mut r = 0;
-    let mut j = 0;
-    while j < WIDTH {
+    for j in 0..WIDTH {
         r = r | p[j] | q[j];
-        j += 1;
     }
     r == 0
 }

@@ -1,9 +1,10 @@
 -- What a plan does to a column: take the lost roles as 00, take P* and Q* of that column, and solve them for the lost bytes by a rule; parities
 -- alone are recomputed. Equations are numbered as in the paper.
-use Rattle.std.specs.Prelude.{ℕ, ◌+◌, ◌<◌, true, false, List, get_or}
+use Rattle.std.specs.Prelude.{ℕ, ◌+◌, ◌<◌, true, false, get_or}
 use Rattle.gf256.specs.Field.{sum, product}
 use Rattle.column.specs.Column.{Column, TwoBytes, put, total, parity_q, syndrome_p, syndrome_q, encode_column, reed_solomon}
 use Rattle.chunk.specs.Chunk.{each}
+use Rattle.chunk.specs.declared.Sums.{Sums}
 use Rattle.losses.specs.declared.Rule.{Rule}
 use Rattle.losses.specs.declared.Rule.TheVariants.{Mixed, Carried}
 use Rattle.losses.specs.declared.Plan.{Plan}
@@ -17,11 +18,11 @@ solution (Mixed a b) p q =
 solution (Carried c) p q = record { first = p; second = sum q (product c.0 p) }
 
 -- the same at every place of a chunk
-abbrev pub solutions : Rule → List ℕ → List ℕ → Restored
-solutions rule p q =
+abbrev pub solutions : Rule → Sums → Restored
+solutions rule s =
     record {
-      first = each (λ j. (solution rule (get_or p j 0) (get_or q j 0)).first);
-      second = each (λ j. (solution rule (get_or p j 0) (get_or q j 0)).second);
+      first = each (λ j. (solution rule (get_or s.p j 0) (get_or s.q j 0)).first);
+      second = each (λ j. (solution rule (get_or s.p j 0) (get_or s.q j 0)).second);
     }
 
 -- what stood on the roles x and y taken as 00

@@ -5,7 +5,7 @@
 ghost use Rattle.std.specs.Prelude.{◌≡◌};
 ghost use Rattle.losses.specs.Losses.{solutions};
 
-use chunk::WIDTH;
+use chunk::{Sums, WIDTH};
 use gf256::Element;
 
 // How the bytes of two lost roles come from P* and Q*, here p and q.
@@ -37,9 +37,10 @@ pub struct Restored {
 }
 
 // The lost bytes at each place, by the rule.
-pub fn solve(rule: Rule, p: [u8; WIDTH], q: [u8; WIDTH]) -> Restored
-    ensures { result ≡ solutions rule p q }
+pub fn solve(rule: Rule, sums: Sums) -> Restored
+    ensures { result ≡ solutions rule sums }
 {
+    let Sums { p, q } = sums;
     match rule {
         Rule::Mixed(a, b) => {
             let mut first = [0u8; WIDTH];

@@ -17,6 +17,7 @@ use Rattle.losses.specs.declared.Plan.{Plan}
 use Rattle.losses.specs.declared.Plan.TheVariants.{ByP, FromData, ByBoth}
 use Rattle.losses.specs.declared.Restored.{Restored}
 use Rattle.losses.specs.declared.Rule.{Rule}
+use Rattle.chunk.specs.declared.Sums.{Sums}
 use Rattle.losses.specs.Losses.{without, solution, solutions, solved, restored_by, KnownPlan}
 use Rattle.losses.proofs.Without.{solved_as}
 use Rattle.shape.specs.declared.Geometry.{Geometry}
@@ -41,14 +42,14 @@ pub part_is : (g : Geometry) (plan : Plan) (s : List ℕ) → Has g s 0 g.b → 
 part_is g plan s h roles = rw (has_true g s 0 g.b h, known_true g.n plan roles)
 
 -- the lost bytes of some columns, solved from P* and Q* without them and set
-pub set_solved : {g : Geometry} {s : List ℕ} {i w x y : ℕ} (h : Has g s i w) (rule : Rule) (p q : List ℕ) {new : Restored} {t u : List ℕ} → x < g.n + 2 → y < g.n + 2
-    → Holds w (λ j. syndrome_p g.n (without x y (column g s (i + j)))) p
-    → Holds w (λ j. syndrome_q reed_solomon g.n (without x y (column g s (i + j)))) q
-    → new ≡ solutions rule p q
+pub set_solved : {g : Geometry} {s : List ℕ} {i w x y : ℕ} (h : Has g s i w) (rule : Rule) (a : Sums) {new : Restored} {t u : List ℕ} → x < g.n + 2 → y < g.n + 2
+    → Holds w (λ j. syndrome_p g.n (without x y (column g s (i + j)))) a.p
+    → Holds w (λ j. syndrome_q reed_solomon g.n (without x y (column g s (i + j)))) a.q
+    → new ≡ solutions rule a
     → t ≡ set_on g y i w new.second s
     → u ≡ set_on g x i w new.first t
     → ColumnsMapped g i w (λ j c. solved g.n x y rule c) s u
-set_solved {g} {s} {i} {w} {x} {y} h rule p q {new} known_x known_y is_p is_q is_new is_t is_u =
+set_solved {g} {s} {i} {w} {x} {y} h rule a {new} known_x known_y is_p is_q is_new is_t is_u =
     columns_as (set_two h new.first new.second known_x known_y is_t is_u)
     (λ j l.
     solved_as g.n x y (column g s (i + j)) rule

@@ -71,9 +71,7 @@ fn part_by_both(g: Geometry, stripe: &mut [u8], x: usize, y: usize, rule: Rule)
     ensures { stripe.new ≡ lift g (λ i c. solved g.n x y rule c) stripe.old }
 {
     let s = sums::part_survivors(g, stripe, 0, g.b, x, y);
-    let p = s.p;
-    let q = s.q;
-    let new = losses::solve(rule, p, q);
+    let new = losses::solve(rule, s);
     let first = new.first;
     let second = new.second;
     stretch::set(g, stripe, y, 0, g.b, second);

@@ -1,5 +1,4 @@
-// Products of chunks with elements, place by place. As in `chunk`, what a function writes it first lends
-// as a slice.
+// Products of chunks with elements, place by place.
 #![tactic(auto)]
 
 ghost use Rattle.std.specs.Prelude.{◌≡◌, get_or};
@@ -10,11 +9,10 @@ ghost use Rattle.products.specs.Products.{plus_product, plus_bit, combined};
 use chunk::WIDTH;
 use gf256::Element;
 
-// a + c x, by c's bits from the lowest up.
+// a + c x, by c's bits from the lowest up. The loop counts nothing: it ends with the highest one.
 pub fn add_product(a: &mut [u8; WIDTH], c: Element, x: [u8; WIDTH])
     ensures { a.new ≡ plus_product a.old c.0 x }
 {
-    let _a: &[u8] = a;
     let mut c = c.0;
     let mut x = x;
     while c != 0 {
@@ -31,9 +29,7 @@ pub fn combine(a: Element, p: [u8; WIDTH], b: Element, q: [u8; WIDTH]) -> [u8; W
     ensures { result ≡ combined a.0 p b.0 q }
 {
     let mut d = [0u8; WIDTH];
-    let mut k = 8u8;
-    while 0 < k {
-        k -= 1;
+    for k in (0..8u8).rev() {
         add_bits(&mut d, a.0 >> k, &p, b.0 >> k, &q);
     }
     d
@@ -43,13 +39,10 @@ pub fn combine(a: Element, p: [u8; WIDTH], b: Element, q: [u8; WIDTH]) -> [u8; W
 fn add_bits(d: &mut [u8; WIDTH], m: u8, x: &[u8; WIDTH], n: u8, y: &[u8; WIDTH])
     ensures { d.new ≡ each (λ j. plus_bit (plus_bit (double (get_or d.old j 0)) m (get_or x.now j 0)) n (get_or y.now j 0)) }
 {
-    let _d: &[u8] = d;
-    let mut j = 0;
-    while j < WIDTH {
+    for j in 0..WIDTH {
         let z = Element(d[j]).double();
         let z = add_bit(z, m, Element(x[j]));
         d[j] = add_bit(z, n, Element(y[j])).0;
-        j += 1;
     }
 }
 
@@ -63,10 +56,7 @@ fn add_bit(z: Element, m: u8, x: Element) -> Element
 pub fn double(x: &mut [u8; WIDTH])
     ensures { x.new ≡ each (λ j. double (get_or x.old j 0)) }
 {
-    let _x: &[u8] = x;
-    let mut j = 0;
-    while j < WIDTH {
-        x[j] = Element(x[j]).double().0;
-        j += 1;
+    for v in x.iter_mut() {
+        *v = Element(*v).double().0;
     }
 }

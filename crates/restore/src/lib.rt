@@ -14,11 +14,11 @@ ghost use Rattle.sums.specs.Sums.{sums_of};
 ghost use Rattle.sums.specs.Strip.{strip, HasStrip};
 ghost use Rattle.restore.specs.Restore.{restored, Survivors};
 
-use chunk::WIDTH;
+use chunk::{Sums, WIDTH};
 use gf256::Element;
 use losses::{Plan, Rule};
 use shape::Geometry;
-use sums::{CHUNKS, STRIP, Sums};
+use sums::{CHUNKS, STRIP};
 
 // Restores a stripe. What is no stripe, or has not the roles of the plan, stays as it is.
 pub fn restore(g: Geometry, stripe: &mut [u8], plan: Plan)
@@ -117,7 +117,7 @@ fn set_solved(
     requires { Has g stripe.old i width × (x < g.n + 2) × (y < g.n + 2) × Survivors g stripe.old i x y p q }
     ensures { ColumnsMapped g i width (λ j c. solved g.n x y rule c) stripe.old stripe.new }
 {
-    let new = losses::solve(rule, p, q);
+    let new = losses::solve(rule, Sums { p, q });
     let on_x = new.first;
     let on_y = new.second;
     stretch::set(g, stripe, y, i, WIDTH, on_y);

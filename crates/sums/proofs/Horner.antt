@@ -15,7 +15,7 @@ use Rattle.chunk.proofs.Laws.{each_at}
 use Rattle.column.specs.Column.{Column, total, parity_p, parity_q, reed_solomon}
 use Rattle.column.proofs.Total.{total_same, total_map, total_front, total_lt}
 use Rattle.stretch.proofs.Laws.{zeros}
-use Rattle.sums.specs.declared.Sums.{Sums}
+use Rattle.chunk.specs.declared.Sums.{Sums}
 use Rattle.sums.specs.Sums.{sums_of, tail_p, tail_q, Tails}
 
 -- a sum over the disks from k on, for any terms t j x
@@ -74,7 +74,7 @@ abbrev Byte : List ℕ → Type 0
 Byte d = (j : ℕ) → get_or d j 0 < 256
 
 module _ (n : ℕ) (f : ℕ → Column) where
-  pub tails_none : Tails n n f (replicate width 0) (replicate width 0)
+  pub tails_none : Tails n n f (two (replicate width 0) (replicate width 0))
   tails_none =
       record {
         first = zeros ∙ tabulate_same width (λ j l. sym (tail_none (λ i x. x) n (f j)));
@@ -82,9 +82,9 @@ module _ (n : ℕ) (f : ℕ → Column) where
       }
 
   -- one disk more
-  pub tails_more : {k m : ℕ} {p q p' q' : List ℕ} (d : List ℕ) → m ≡ suc k → m ≤ n → Tails n m f p q → d ≡ each (λ j. f j k) → Byte d → p' ≡ plus p d → q' ≡ double_plus q d
-      → Tails n k f p' q'
-  tails_more {k} {m} {p} {q} {p'} {q'} d next h tails disk bytes is_p is_q =
+  pub tails_more : {k m : ℕ} {a b : Sums} (d : List ℕ) → m ≡ suc k → m ≤ n → Tails n m f a → d ≡ each (λ j. f j k) → Byte d → b.p ≡ plus a.p d → b.q ≡ double_plus a.q d
+      → Tails n k f b
+  tails_more {k} {m} d next h tails disk bytes is_p is_q =
       record {
         first = is_p
             ∙ tabulate_same width
@@ -98,9 +98,9 @@ module _ (n : ℕ) (f : ℕ → Column) where
       }
 
   -- a disk that is 00
-  pub tails_zero : {k : ℕ} {p q q' : List ℕ} → k < n → Tails n (k + 1) f p q → ((j : ℕ) → j < width → f j k ≡ 0) → q' ≡ each (λ j. double (get_or q j 0))
-      → Tails n k f p q'
-  tails_zero {k} {p} {q} {q'} h tails zero is =
+  pub tails_zero : {k : ℕ} {a : Sums} {q : List ℕ} → k < n → Tails n (k + 1) f a → ((j : ℕ) → j < width → f j k ≡ 0) → q ≡ each (λ j. double (get_or a.q j 0))
+      → Tails n k f (two a.p q)
+  tails_zero {k} h tails zero is =
       record {
         first = tails.first
             ∙ tabulate_same width
@@ -113,11 +113,11 @@ module _ (n : ℕ) (f : ℕ → Column) where
       }
 
   -- all disks, and P* and Q* with the stored parities
-  pub tails_all : {p q : List ℕ} → Tails n 0 f p q → (p ≡ each (λ j. parity_p n (f j))) × (q ≡ each (λ j. parity_q reed_solomon n (f j)))
+  pub tails_all : {a : Sums} → Tails n 0 f a → (a.p ≡ each (λ j. parity_p n (f j))) × (a.q ≡ each (λ j. parity_q reed_solomon n (f j)))
   tails_all tails = (tails.first ∙ tabulate_same width (λ j l. tail_p_all n (f j)), tails.second ∙ tabulate_same width (λ j l. tail_q_all n (f j)))
 
-  pub tails_stored : {p q d e p' q' : List ℕ} → Tails n 0 f p q → d ≡ each (λ j. f j n) → e ≡ each (λ j. f j (n + 1)) → p' ≡ plus p d → q' ≡ plus q e
-      → two p' q' ≡ sums_of n f
+  pub tails_stored : {a : Sums} {d e p q : List ℕ} → Tails n 0 f a → d ≡ each (λ j. f j n) → e ≡ each (λ j. f j (n + 1)) → p ≡ plus a.p d → q ≡ plus a.q e
+      → two p q ≡ sums_of n f
   tails_stored tails is_d is_e is_p is_q =
       let sums = tails_all tails in
       ap₂ two

@@ -14,6 +14,7 @@ use Rattle.base.specs.Choice.{choose}
 use Rattle.base.proofs.Choice.{both_true, below_or_not}
 use Rattle.base.proofs.Table.{tabulate_same}
 use Rattle.chunk.specs.Chunk.{width, each, plus, double_plus}
+use Rattle.chunk.specs.declared.Sums.{Sums}
 use Rattle.column.specs.Column.{Column, put, encode_column, reed_solomon}
 use Rattle.column.proofs.Put.{put_same, put_other}
 use Rattle.losses.proofs.Again.{put_over}
@@ -122,30 +123,30 @@ module _ {g : Geometry} {i from to m : ℕ} {s t : List ℕ} (fits : i + page �
 -- ---- a chunk
 module _ {g : Geometry} {s : List ℕ} {i : ℕ} where
   -- P and Q put in each column, where they are the sums that the pass ends with
-  pub chunk_passed : {from to : ℕ} (p q : List ℕ) {t : List ℕ} → from < g.n → ((f : ℕ → Column) → Staged g i width to f s → Tails g.n from f p q)
-      → ColumnsMapped g i width (λ j c. put g.n (get_or p j 0) (put (g.n + 1) (get_or q j 0) c)) s t
+  pub chunk_passed : {from to : ℕ} (a : Sums) {t : List ℕ} → from < g.n → ((f : ℕ → Column) → Staged g i width to f s → Tails g.n from f a)
+      → ColumnsMapped g i width (λ j c. put g.n (get_or a.p j 0) (put (g.n + 1) (get_or a.q j 0) c)) s t
       → Passed g i width from to s t
-  chunk_passed {from} {to} p q some sums mapped =
+  chunk_passed {from} {to} a some sums mapped =
       let n = g.n in
       record {
         kept = mapped.kept;
         within = λ f staged j l.
             mapped.within j l
-            ∙ ap (λ (c : Column). put n (get_or p j 0) (put (n + 1) (get_or q j 0) c)) (staged j l)
-            ∙ stage_over n (f j) to (get_or p j 0) (get_or q j 0)
+            ∙ ap (λ (c : Column). put n (get_or a.p j 0) (put (n + 1) (get_or a.q j 0) c)) (staged j l)
+            ∙ stage_over n (f j) to (get_or a.p j 0) (get_or a.q j 0)
             ∙ ap₂ (λ (v w : ℕ). put n v (put (n + 1) w (f j))) (at _ (sums f staged).first j l) (at _ (sums f staged).second j l)
             ∙ sym (stage_some n (f j) some);
         outside = mapped.outside;
       }
 
   -- the highest disk, and the other disks of the first pass
-  pub chunk_begun : {from : ℕ} (d : List ℕ) {p q p' q' : List ℕ} → Has g s i width → from < g.n → d ≡ each (λ j. column_of g s i width j (g.n - 1)) → ((j : ℕ) → get_or d j 0 < 256)
-      → p ≡ plus (replicate width 0) d
-      → q ≡ double_plus (replicate width 0) d
-      → DisksAdded g i from (g.n - 1) s p q p' q'
+  pub chunk_begun : {from : ℕ} (d : List ℕ) {a b : Sums} → Has g s i width → from < g.n → d ≡ each (λ j. column_of g s i width j (g.n - 1)) → ((j : ℕ) → get_or d j 0 < 256)
+      → a.p ≡ plus (replicate width 0) d
+      → a.q ≡ double_plus (replicate width 0) d
+      → DisksAdded g i from (g.n - 1) s a b
       → (f : ℕ → Column)
       → Staged g i width g.n f s
-      → Tails g.n from f p' q'
+      → Tails g.n from f b
   chunk_begun d h some is bytes is_p is_q added f staged =
       let same : (j : ℕ) → j < width → column g s (i + j) ≡ f j = λ j l. staged j l ∙ stage_none g.n (f j) in
       upper_added g s i f d some (λ j k l low high. sym (ap (λ (e : Column). e k) (same j l)))
@@ -156,11 +157,11 @@ module _ {g : Geometry} {s : List ℕ} {i : ℕ} where
       added
 
   -- the sums that P and Q hold, and the disks of the pass added to them
-  pub chunk_carried : {from to : ℕ} {p q p' q' : List ℕ} → Has g s i width → to < g.n → p ≡ each (λ j. column_of g s i width j g.n) → q ≡ each (λ j. column_of g s i width j (g.n + 1))
-      → DisksAdded g i from to s p q p' q'
+  pub chunk_carried : {from to : ℕ} {a b : Sums} → Has g s i width → to < g.n → a.p ≡ each (λ j. column_of g s i width j g.n) → a.q ≡ each (λ j. column_of g s i width j (g.n + 1))
+      → DisksAdded g i from to s a b
       → (f : ℕ → Column)
       → Staged g i width to f s
-      → Tails g.n from f p' q'
+      → Tails g.n from f b
   chunk_carried h below is_p is_q added f staged =
       let n = g.n in
       let there : (r j : ℕ) → j < width → column_of g s i width j r ≡ stage n _ (f j) r = λ r j l. ap (λ (e : Column). e r) (column_of_lem h j l ∙ staged j l) in

@@ -11,6 +11,7 @@ use borrow.Author.Tests.{le-ltb, lt-leb}
 use lib.ListN.{length, get_or, take, drop, replicate}
 use Rattle.base.proofs.Table.{tabulate_same}
 use Rattle.chunk.specs.Chunk.{width, each, plus, double_plus}
+use Rattle.chunk.specs.declared.Sums.{Sums}
 use Rattle.column.specs.Column.{Column}
 use Rattle.losses.specs.Losses.{without}
 use Rattle.losses.proofs.Without.{without_other, without_lost}
@@ -43,14 +44,14 @@ below {g} {s} {i} has small k {m} next h is moved =
     moved ∙ before_start g k i (omega (arith, has.shaped.block)) (omega arith) (is ∙ ap (λ (k : ℕ). start g k + i) next)
 
 -- one disk more, read as d from its place in the stripe
-pub disk_added : (g : Geometry) (s : List ℕ) (i : ℕ) {to k m at : ℕ} {p q p₁ q₁ p₂ q₂ : List ℕ} (d : List ℕ) → m ≡ suc k → m ≤ to → to ≤ g.n
-    → DisksAdded g i m to s p q p₁ q₁
+pub disk_added : (g : Geometry) (s : List ℕ) (i : ℕ) {to k m at : ℕ} {a b c : Sums} (d : List ℕ) → m ≡ suc k → m ≤ to → to ≤ g.n
+    → DisksAdded g i m to s a b
     → at ≡ start g k + i
     → d ≡ each (λ j. get_or (take (at + width - at) (drop at s)) j 0)
     → ((j : ℕ) → get_or d j 0 < 256)
-    → p₂ ≡ plus p₁ d
-    → q₂ ≡ double_plus q₁ d
-    → DisksAdded g i k to s p q p₂ q₂
+    → c.p ≡ plus b.p d
+    → c.q ≡ double_plus b.q d
+    → DisksAdded g i k to s a c
 disk_added g s i {k = k} d next h most added place is bytes is_p is_q f agrees tails =
     tails_more g.n f d next (omega arith) (added f (λ j m l low high. agrees j m l (omega arith) high) tails)
     (is
@@ -64,24 +65,24 @@ disk_added g s i {k = k} d next h most added place is bytes is_p is_q f agrees t
     is_q
 
 -- the highest disk, and those below it down to `from`
-pub upper_added : (g : Geometry) (s : List ℕ) (i : ℕ) {from : ℕ} (f : ℕ → Column) (d : List ℕ) {p q p' q' : List ℕ} → from < g.n → Agrees g i from g.n s f → d ≡ each (λ j. f j (g.n - 1))
+pub upper_added : (g : Geometry) (s : List ℕ) (i : ℕ) {from : ℕ} (f : ℕ → Column) (d : List ℕ) {a b : Sums} → from < g.n → Agrees g i from g.n s f → d ≡ each (λ j. f j (g.n - 1))
     → ((j : ℕ) → get_or d j 0 < 256)
-    → p ≡ plus (replicate width 0) d
-    → q ≡ double_plus (replicate width 0) d
-    → DisksAdded g i from (g.n - 1) s p q p' q'
-    → Tails g.n from f p' q'
+    → a.p ≡ plus (replicate width 0) d
+    → a.q ≡ double_plus (replicate width 0) d
+    → DisksAdded g i from (g.n - 1) s a b
+    → Tails g.n from f b
 upper_added g s i f d h agrees highest bytes is_p is_q below =
     below f (λ j k l low high. agrees j k l low (omega arith)) (tails_more g.n f d (omega arith) (omega arith) (tails_none g.n f) highest bytes is_p is_q)
 
-pub all_added : {g : Geometry} {s : List ℕ} {i : ℕ} (d : List ℕ) {p q p' q' : List ℕ} → Has g s i width → d ≡ each (λ j. column_of g s i width j (g.n - 1)) → ((j : ℕ) → get_or d j 0 < 256)
-    → p ≡ plus (replicate width 0) d
-    → q ≡ double_plus (replicate width 0) d
-    → DisksAdded g i 0 (g.n - 1) s p q p' q'
-    → Tails g.n 0 (column_of g s i width) p' q'
+pub all_added : {g : Geometry} {s : List ℕ} {i : ℕ} (d : List ℕ) {a b : Sums} → Has g s i width → d ≡ each (λ j. column_of g s i width j (g.n - 1)) → ((j : ℕ) → get_or d j 0 < 256)
+    → a.p ≡ plus (replicate width 0) d
+    → a.q ≡ double_plus (replicate width 0) d
+    → DisksAdded g i 0 (g.n - 1) s a b
+    → Tails g.n 0 (column_of g s i width) b
 all_added {g} {s} {i} d h = upper_added g s i (column_of g s i width) d h.shaped.disk (λ j k l low high. ap (λ (e : Column). e k) (column_of_lem h j l))
 
 -- among all disks a lost one lies above none
-pub within_all : {g : Geometry} {i lost to : ℕ} {s p q : List ℕ} {r : ℕ} {p' q' : List ℕ} → AddedAbove g i lost to s p q r p' q' → AddedWithin g i lost 0 to s p q r p' q'
+pub within_all : {g : Geometry} {i lost to : ℕ} {s : List ℕ} {a b : Sums} {r : ℕ} → AddedAbove g i lost to s a r b → AddedWithin g i lost 0 to s a r b
 within_all above =
     record {
       below = inr above.below;
@@ -98,10 +99,10 @@ not_lost {g} {s} {i} h x y {j} {k} l not_x not_y = without_other x y (column_of 
 is_other : {x from to k : ℕ} → outside x from to ≡ true → from ≤ k → k < to → k ≡ x → ⊥
 is_other {x} {from} {to} out low high e = true≢false (sym out ∙ simp (le-ltb x from (omega arith), lt-leb to x (omega arith)))
 
-pub plain_added : {g : Geometry} {s : List ℕ} {i : ℕ} (x y : ℕ) {from to : ℕ} {p q p' q' : List ℕ} → Has g s i width → outside x from to ≡ true → outside y from to ≡ true
-    → DisksAdded g i from to s p q p' q'
-    → Tails g.n to (λ j. without x y (column_of g s i width j)) p q
-    → Tails g.n from (λ j. without x y (column_of g s i width j)) p' q'
+pub plain_added : {g : Geometry} {s : List ℕ} {i : ℕ} (x y : ℕ) {from to : ℕ} {a b : Sums} → Has g s i width → outside x from to ≡ true → outside y from to ≡ true
+    → DisksAdded g i from to s a b
+    → Tails g.n to (λ j. without x y (column_of g s i width j)) a
+    → Tails g.n from (λ j. without x y (column_of g s i width j)) b
 plain_added {g} {s} {i} x y h not_x not_y run =
     run (λ j. without x y (column_of g s i width j)) λ j k l low high. not_lost h x y l (is_other not_x low high) (is_other not_y low high)
 
@@ -118,12 +119,12 @@ neither l h not_low not_high = (
   λ e. ⊎_elim (λ p. ⊎_elim (λ q. not_low (omega arith)) (λ q. not_high (omega arith)) h.2) (λ p. not_low (omega arith)) l.2,
 )
 
-pub runs_added : {g : Geometry} {s : List ℕ} {i : ℕ} (x y : ℕ) {low high from to k m : ℕ} {p q p₁ q₁ p₂ q₂ p₃ q₃ : List ℕ} → Has g s i width → Lower x y low → Higher x y high
-    → AddedWithin g i high from to s p q k p₁ q₁
-    → AddedWithin g i low from k s p₁ q₁ m p₂ q₂
-    → DisksAdded g i from m s p₂ q₂ p₃ q₃
-    → Tails g.n to (λ j. without x y (column_of g s i width j)) p q
-    → Tails g.n from (λ j. without x y (column_of g s i width j)) p₃ q₃
+pub runs_added : {g : Geometry} {s : List ℕ} {i : ℕ} (x y : ℕ) {low high from to k m : ℕ} {a b c d : Sums} → Has g s i width → Lower x y low → Higher x y high
+    → AddedWithin g i high from to s a k b
+    → AddedWithin g i low from k s b m c
+    → DisksAdded g i from m s c d
+    → Tails g.n to (λ j. without x y (column_of g s i width j)) a
+    → Tails g.n from (λ j. without x y (column_of g s i width j)) d
 runs_added {g} {s} {i} x y {low} {high} h lower higher above between below tails =
     let e = column_of g s i width in
     let f : ℕ → Column = λ j. without x y (e j) in

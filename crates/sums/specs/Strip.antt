@@ -3,6 +3,7 @@ use Rattle.std.specs.Prelude.{ℕ, ◌+◌, ◌-◌, ◌≤◌, ◌<◌, ◌≡�
 use Rattle.base.specs.Choice.{choose, both, either}
 use Rattle.base.specs.Table.{tabulate}
 use Rattle.chunk.specs.Chunk.{width}
+use Rattle.chunk.specs.declared.Sums.{Sums}
 use Rattle.column.specs.Column.{Column, syndrome_p, syndrome_q, reed_solomon}
 use Rattle.losses.specs.Losses.{without}
 use Rattle.shape.specs.declared.Geometry.{Geometry}
@@ -61,15 +62,15 @@ abbrev pub plain_group : ℕ → ℕ → ℕ → ℕ → Bool
 plain_group x y from to = both (outside x from to) (both (outside y from to) (ltb 0 from))
 
 -- a group of disks is added to those above it
-abbrev pub GroupAdded : Geometry → ℕ → ℕ → ℕ → ℕ → ℕ → List ℕ → List ℕ → List ℕ → List ℕ → List ℕ → Type 0
-GroupAdded g i x y from to s p q p' q' =
-    let f : ℕ → Column = λ j. without x y (column_of g s i width j) in Tails g.n to f p q → Stage width g.n from f p' q'
+abbrev pub GroupAdded : Geometry → ℕ → ℕ → ℕ → ℕ → ℕ → List ℕ → Sums → Sums → Type 0
+GroupAdded g i x y from to s a b =
+    let f : ℕ → Column = λ j. without x y (column_of g s i width j) in Tails g.n to f a → Stage width g.n from f b.p b.q
 
 -- so are those of them above a lost disk, and the lost one as 00, or none where it is none of them; r is the first that is done
-pub record AddedWithin (g : Geometry) (i lost from to : ℕ) (s p q : List ℕ) (r : ℕ) (p' q' : List ℕ) : Type 0 where
+pub record AddedWithin (g : Geometry) (i lost from to : ℕ) (s : List ℕ) (a : Sums) (r : ℕ) (b : Sums) : Type 0 where
   pub below : (lost < from) ⊎ (r ≤ lost)
   pub within : r ≤ to
   pub above : from ≤ r
   pub sums : (f : ℕ → Column) → ((j k : ℕ) → j < width → from ≤ k → lost < k → k < to → f j k ≡ column g s (i + j) k) → ((j : ℕ) → j < width → f j lost ≡ 0)
-      → Tails g.n to f p q
-      → Tails g.n r f p' q'
+      → Tails g.n to f a
+      → Tails g.n r f b

@@ -5,7 +5,7 @@ use Rattle.chunk.specs.Chunk.{width, each}
 use Rattle.column.specs.Column.{Column, total, parity_p, parity_q, syndrome_p, syndrome_q, reed_solomon}
 use Rattle.shape.specs.declared.Geometry.{Geometry}
 use Rattle.shape.specs.Layout.{column}
-use Rattle.sums.specs.declared.Sums.{Sums}
+use Rattle.chunk.specs.declared.Sums.{Sums}
 
 -- the right sides of equations 1 and 2 in each column
 abbrev pub parities_of : ℕ → (ℕ → Column) → Sums
@@ -23,24 +23,24 @@ tail_p n k f = total (n - k) (λ j. f (k + j))
 abbrev pub tail_q : ℕ → ℕ → (ℕ → ℕ) → ℕ
 tail_q n k f = total (n - k) (λ j. product (power 2 j) (f (k + j)))
 
--- p and q are these sums of each column
-pub record Tails (n k : ℕ) (f : ℕ → Column) (p q : List ℕ) : Type 0 where
-  pub first : p ≡ each (λ j. tail_p n k (f j))
-  pub second : q ≡ each (λ j. tail_q n k (f j))
+-- a holds these sums of each column
+pub record Tails (n k : ℕ) (f : ℕ → Column) (a : Sums) : Type 0 where
+  pub first : a.p ≡ each (λ j. tail_p n k (f j))
+  pub second : a.q ≡ each (λ j. tail_q n k (f j))
 
 -- the columns f are the stripe's on the disks from `from` to below `to`
 abbrev pub Agrees : Geometry → ℕ → ℕ → ℕ → List ℕ → (ℕ → Column) → Type 0
 Agrees g i from to s f = (j k : ℕ) → j < width → from ≤ k → k < to → f j k ≡ column g s (i + j) k
 
--- these disks are added to p and q, which become p' and q'
-abbrev pub DisksAdded : Geometry → ℕ → ℕ → ℕ → List ℕ → List ℕ → List ℕ → List ℕ → List ℕ → Type 0
-DisksAdded g i from to s p q p' q' =
-    (f : ℕ → Column) → Agrees g i from to s f → Tails g.n to f p q → Tails g.n from f p' q'
+-- these disks are added to a, which becomes b
+abbrev pub DisksAdded : Geometry → ℕ → ℕ → ℕ → List ℕ → Sums → Sums → Type 0
+DisksAdded g i from to s a b =
+    (f : ℕ → Column) → Agrees g i from to s f → Tails g.n to f a → Tails g.n from f b
 
 -- so are those above a lost disk, and the lost one as 00; r is the first that is done
-pub record AddedAbove (g : Geometry) (i lost to : ℕ) (s p q : List ℕ) (r : ℕ) (p' q' : List ℕ) : Type 0 where
+pub record AddedAbove (g : Geometry) (i lost to : ℕ) (s : List ℕ) (a : Sums) (r : ℕ) (b : Sums) : Type 0 where
   pub below : r ≤ lost
   pub within : r ≤ to
   pub above : (k : ℕ) → k ≤ lost → k ≤ to → k ≤ r
-  pub sums : (f : ℕ → Column) → Agrees g i (lost + 1) to s f → ((j : ℕ) → j < width → f j lost ≡ 0) → Tails g.n to f p q
-      → Tails g.n r f p' q'
+  pub sums : (f : ℕ → Column) → Agrees g i (lost + 1) to s f → ((j : ℕ) → j < width → f j lost ≡ 0) → Tails g.n to f a
+      → Tails g.n r f b

@@ -13,15 +13,8 @@ ghost use Rattle.sums.specs.Sums.{parities_of, sums_of, DisksAdded, AddedAbove};
 ghost use Rattle.sums.specs.Strip.{strip, in_strips, has_strip, HasStrip, strip_column, StripSummed, Stage, outside, plain_group, GroupAdded, AddedWithin};
 ghost use Rattle.sums.specs.Passes.{page, in_passes, parities_set, Passed};
 
-use chunk::WIDTH;
+use chunk::{Sums, WIDTH};
 use shape::Geometry;
-
-// Both sums of a chunk of columns.
-#[derive(Clone, Copy)]
-pub struct Sums {
-    pub p: [u8; WIDTH],
-    pub q: [u8; WIDTH],
-}
 
 // The chunks of a strip, and its columns.
 pub const CHUNKS: usize = 8;
@@ -50,15 +43,14 @@ const PASS: usize = 5;
 pub fn parities(g: Geometry, stripe: &[u8], i: usize) -> Sums
     ensures { result ≡ parities_of g.n (column_of g stripe.now i width) }
 {
-    let mut p = [0u8; WIDTH];
-    let mut q = [0u8; WIDTH];
+    let mut sums = Sums::ZERO;
     if stretch::has_columns(g, stripe.len(), i, WIDTH) {
         let k = g.n - 1;
         let d = stretch::load(g, stripe, k, i, WIDTH);
-        chunk::add_disk(&mut p, &mut q, &d);
-        add_pairs(g, stripe, i, k, &mut p, &mut q);
+        sums.add_disk(&d);
+        add_pairs(g, stripe, i, k, &mut sums);
     }
-    Sums { p, q }
+    sums
 }
 
 // P* and Q* of each column of a chunk: the parities that the data give, and the stored ones added.
@@ -66,19 +58,18 @@ pub fn parities(g: Geometry, stripe: &[u8], i: usize) -> Sums
 pub fn syndromes(g: Geometry, stripe: &[u8], i: usize) -> Sums
     ensures { result ≡ sums_of g.n (column_of g stripe.now i width) }
 {
-    let mut p = [0u8; WIDTH];
-    let mut q = [0u8; WIDTH];
+    let mut sums = Sums::ZERO;
     if stretch::has_columns(g, stripe.len(), i, WIDTH) {
         let k = g.n - 1;
         let d = stretch::load(g, stripe, k, i, WIDTH);
-        chunk::add_disk(&mut p, &mut q, &d);
-        add_pairs(g, stripe, i, k, &mut p, &mut q);
+        sums.add_disk(&d);
+        add_pairs(g, stripe, i, k, &mut sums);
         let d = stretch::load(g, stripe, g.n, i, WIDTH);
-        chunk::add(&mut p, &d);
+        chunk::add(&mut sums.p, &d);
         let d = stretch::load(g, stripe, g.n + 1, i, WIDTH);
-        chunk::add(&mut q, &d);
+        chunk::add(&mut sums.q, &d);
     }
-    Sums { p, q }
+    sums
 }
 
 // P* and Q* of each column of a chunk without the roles x and y. A lost disk is no part of the loops:
@@ -86,41 +77,39 @@ pub fn syndromes(g: Geometry, stripe: &[u8], i: usize) -> Sums
 pub fn survivors(g: Geometry, stripe: &[u8], i: usize, x: usize, y: usize) -> Sums
     ensures { result ≡ sums_of g.n (λ j. without x y (column_of g stripe.now i width j)) }
 {
-    let mut p = [0u8; WIDTH];
-    let mut q = [0u8; WIDTH];
+    let mut sums = Sums::ZERO;
     if !stretch::has_columns(g, stripe.len(), i, WIDTH) {
-        return Sums { p, q };
+        return sums;
     }
-    let k = add_above(g, stripe, i, higher(x, y), g.n, &mut p, &mut q);
-    let k = add_above(g, stripe, i, lower(x, y), k, &mut p, &mut q);
-    add_disks(g, stripe, i, 0, k, &mut p, &mut q);
+    let k = add_above(g, stripe, i, higher(x, y), g.n, &mut sums);
+    let k = add_above(g, stripe, i, lower(x, y), k, &mut sums);
+    add_disks(g, stripe, i, 0, k, &mut sums);
     let d = load_but(g, stripe, g.n, i, WIDTH, x, y);
-    chunk::add(&mut p, &d);
+    chunk::add(&mut sums.p, &d);
     let d = load_but(g, stripe, g.n + 1, i, WIDTH, x, y);
-    chunk::add(&mut q, &d);
-    Sums { p, q }
+    chunk::add(&mut sums.q, &d);
+    sums
 }
 
 // The same of w columns.
 pub fn part_survivors(g: Geometry, stripe: &[u8], i: usize, w: usize, x: usize, y: usize) -> Sums
     ensures { result ≡ sums_of g.n (λ j. without x y (column_of g stripe.now i w j)) }
 {
-    let mut p = [0u8; WIDTH];
-    let mut q = [0u8; WIDTH];
+    let mut sums = Sums::ZERO;
     if !stretch::has_columns(g, stripe.len(), i, w) {
-        return Sums { p, q };
+        return sums;
     }
     let mut k = g.n;
     while 0 < k {
         k -= 1;
         let d = load_but(g, stripe, k, i, w, x, y);
-        chunk::add_disk(&mut p, &mut q, &d);
+        sums.add_disk(&d);
     }
     let d = load_but(g, stripe, g.n, i, w, x, y);
-    chunk::add(&mut p, &d);
+    chunk::add(&mut sums.p, &d);
     let d = load_but(g, stripe, g.n + 1, i, w, x, y);
-    chunk::add(&mut q, &d);
-    Sums { p, q }
+    chunk::add(&mut sums.q, &d);
+    sums
 }
 
 // The same of a strip, left in p and q; they stay where the stripe has not these columns. With many
@@ -220,38 +209,22 @@ fn lower(x: usize, y: usize) -> usize
 }
 
 // The disks below `to` down to the lost one, which counts as 00. The first that is done.
-fn add_above(
-    g: Geometry,
-    stripe: &[u8],
-    i: usize,
-    lost: usize,
-    to: usize,
-    p: &mut [u8; WIDTH],
-    q: &mut [u8; WIDTH],
-) -> usize
+fn add_above(g: Geometry, stripe: &[u8], i: usize, lost: usize, to: usize, sums: &mut Sums) -> usize
     requires { Has g stripe.now i width × (to ≤ g.n) }
-    ensures { AddedAbove g i lost to stripe.now p.old q.old result p.new q.new }
+    ensures { AddedAbove g i lost to stripe.now sums.old result sums.new }
 {
     if to <= lost {
         return to;
     }
-    add_disks(g, stripe, i, lost + 1, to, p, q);
-    products::double(q);
+    add_disks(g, stripe, i, lost + 1, to, sums);
+    products::double(&mut sums.q);
     lost
 }
 
 // The disks below `to` down to `from`.
-fn add_disks(
-    g: Geometry,
-    stripe: &[u8],
-    i: usize,
-    from: usize,
-    to: usize,
-    p: &mut [u8; WIDTH],
-    q: &mut [u8; WIDTH],
-)
+fn add_disks(g: Geometry, stripe: &[u8], i: usize, from: usize, to: usize, sums: &mut Sums)
     requires { Has g stripe.now i width × (from ≤ to) × (to ≤ g.n) }
-    ensures { DisksAdded g i from to stripe.now p.old q.old p.new q.new }
+    ensures { DisksAdded g i from to stripe.now sums.old sums.new }
 {
     let mut k = to;
     let mut at = g.start(to) + i;
@@ -259,22 +232,15 @@ fn add_disks(
         k -= 1;
         at = g.role_before(at);
         let d = chunk::load(&stripe[at..at + WIDTH]);
-        chunk::add_disk(p, q, &d);
+        sums.add_disk(&d);
     }
 }
 
 // All disks below `to`, two at a time, and the last alone where their number is odd. Where disks are lost there are up to three
 // runs of them, and the compiler leaves a step of two out of the loop over the chunks: those go one by one.
-fn add_pairs(
-    g: Geometry,
-    stripe: &[u8],
-    i: usize,
-    to: usize,
-    p: &mut [u8; WIDTH],
-    q: &mut [u8; WIDTH],
-)
+fn add_pairs(g: Geometry, stripe: &[u8], i: usize, to: usize, sums: &mut Sums)
     requires { Has g stripe.now i width × (to ≤ g.n) }
-    ensures { DisksAdded g i 0 to stripe.now p.old q.old p.new q.new }
+    ensures { DisksAdded g i 0 to stripe.now sums.old sums.new }
 {
     let mut k = to;
     let mut at = g.start(to) + i;
@@ -284,9 +250,9 @@ fn add_pairs(
         at = g.role_before(above);
         let d = chunk::load(&stripe[above..above + WIDTH]);
         let e = chunk::load(&stripe[at..at + WIDTH]);
-        chunk::add_two_disks(p, q, &d, &e);
+        sums.add_two_disks(&d, &e);
     }
-    add_disks(g, stripe, i, 0, k, p, q);
+    add_disks(g, stripe, i, 0, k, sums);
 }
 
 // Whether a buffer of this length is a stripe with a strip of columns from i on.
@@ -333,11 +299,13 @@ fn add_to_strip(
     let mut m = 0;
     while m < CHUNKS {
         let c = WIDTH * m;
-        let mut a = chunk::load(&p[c..c + WIDTH]);
-        let mut b = chunk::load(&q[c..c + WIDTH]);
-        add_group(g, stripe, i + c, x, y, from, to, &mut a, &mut b);
-        chunk::store(&mut p[c..c + WIDTH], a);
-        chunk::store(&mut q[c..c + WIDTH], b);
+        let mut sums = Sums {
+            p: chunk::load(&p[c..c + WIDTH]),
+            q: chunk::load(&q[c..c + WIDTH]),
+        };
+        add_group(g, stripe, i + c, x, y, from, to, &mut sums);
+        chunk::store(&mut p[c..c + WIDTH], sums.p);
+        chunk::store(&mut q[c..c + WIDTH], sums.q);
         m += 1;
     }
 }
@@ -352,24 +320,23 @@ fn add_group(
     y: usize,
     from: usize,
     to: usize,
-    p: &mut [u8; WIDTH],
-    q: &mut [u8; WIDTH],
+    sums: &mut Sums,
 )
     requires { Has g stripe.now i width × (from ≤ to) × (to ≤ g.n) }
-    ensures { GroupAdded g i x y from to stripe.now p.old q.old p.new q.new }
+    ensures { GroupAdded g i x y from to stripe.now sums.old sums.new }
 {
     if is_plain(x, y, from, to) {
-        add_disks(g, stripe, i, from, to, p, q);
+        add_disks(g, stripe, i, from, to, sums);
         return;
     }
-    let k = add_within(g, stripe, i, higher(x, y), from, to, p, q);
-    let k = add_within(g, stripe, i, lower(x, y), from, k, p, q);
-    add_disks(g, stripe, i, from, k, p, q);
+    let k = add_within(g, stripe, i, higher(x, y), from, to, sums);
+    let k = add_within(g, stripe, i, lower(x, y), from, k, sums);
+    add_disks(g, stripe, i, from, k, sums);
     if from == 0 {
         let d = load_but(g, stripe, g.n, i, WIDTH, x, y);
-        chunk::add(p, &d);
+        chunk::add(&mut sums.p, &d);
         let d = load_but(g, stripe, g.n + 1, i, WIDTH, x, y);
-        chunk::add(q, &d);
+        chunk::add(&mut sums.q, &d);
     }
 }
 
@@ -403,16 +370,15 @@ fn add_within(
     lost: usize,
     from: usize,
     to: usize,
-    p: &mut [u8; WIDTH],
-    q: &mut [u8; WIDTH],
+    sums: &mut Sums,
 ) -> usize
     requires { Has g stripe.now i width × (from ≤ to) × (to ≤ g.n) }
-    ensures { AddedWithin g i lost from to stripe.now p.old q.old result p.new q.new }
+    ensures { AddedWithin g i lost from to stripe.now sums.old result sums.new }
 {
     if lost < from {
         return to;
     }
-    add_above(g, stripe, i, lost, to, p, q)
+    add_above(g, stripe, i, lost, to, sums)
 }
 
 // 00 where the role is x or y.
@@ -479,32 +445,33 @@ fn begin_chunk(g: Geometry, stripe: &mut [u8], i: usize, from: usize)
     requires { Has g stripe.old i width × (from < g.n) }
     ensures { Passed g i width from g.n stripe.old stripe.new }
 {
-    let mut p = [0u8; WIDTH];
-    let mut q = [0u8; WIDTH];
+    let mut sums = Sums::ZERO;
     let k = g.n - 1;
     let d = chunk_at(g, stripe, k, i);
-    chunk::add_disk(&mut p, &mut q, &d);
-    add_disks(g, stripe, i, from, k, &mut p, &mut q);
-    set_sums(g, stripe, i, p, q);
+    sums.add_disk(&d);
+    add_disks(g, stripe, i, from, k, &mut sums);
+    set_sums(g, stripe, i, sums);
 }
 
 fn carry_chunk(g: Geometry, stripe: &mut [u8], i: usize, from: usize, to: usize)
     requires { Has g stripe.old i width × (from ≤ to) × (to < g.n) }
     ensures { Passed g i width from to stripe.old stripe.new }
 {
-    let mut p = chunk_at(g, stripe, g.n, i);
-    let mut q = chunk_at(g, stripe, g.n + 1, i);
-    add_disks(g, stripe, i, from, to, &mut p, &mut q);
-    set_sums(g, stripe, i, p, q);
+    let mut sums = Sums {
+        p: chunk_at(g, stripe, g.n, i),
+        q: chunk_at(g, stripe, g.n + 1, i),
+    };
+    add_disks(g, stripe, i, from, to, &mut sums);
+    set_sums(g, stripe, i, sums);
 }
 
 // Both sums of a chunk, in the places of P and Q.
-fn set_sums(g: Geometry, stripe: &mut [u8], i: usize, p: [u8; WIDTH], q: [u8; WIDTH])
+fn set_sums(g: Geometry, stripe: &mut [u8], i: usize, sums: Sums)
     requires { Has g stripe.old i width }
-    ensures { ColumnsMapped g i width (λ j c. put g.n (get_or p j 0) (put (g.n + 1) (get_or q j 0) c)) stripe.old stripe.new }
+    ensures { ColumnsMapped g i width (λ j c. put g.n (get_or sums.p j 0) (put (g.n + 1) (get_or sums.q j 0) c)) stripe.old stripe.new }
 {
-    set_chunk(g, stripe, g.n + 1, i, q);
-    set_chunk(g, stripe, g.n, i, p);
+    set_chunk(g, stripe, g.n + 1, i, sums.q);
+    set_chunk(g, stripe, g.n, i, sums.p);
 }
 
 // What `stretch` loads and sets, without its tests: a pass would make them at each chunk.

@@ -13,6 +13,7 @@ use Rattle.base.proofs.Tails.{part_length, part_place}
 use Rattle.base.proofs.Choice.{below_or_not}
 use Rattle.gf256.specs.Field.{sum, product, power}
 use Rattle.column.specs.Column.{Column, put, reed_solomon, write_column}
+use Rattle.chunk.specs.declared.Sums.{Sums}
 use Rattle.chunk.specs.Chunk.{width, each}
 use Rattle.chunk.proofs.Laws.{each_at}
 use Rattle.shape.specs.declared.Geometry.{Geometry}
@@ -23,7 +24,6 @@ use Rattle.shape.proofs.Columns.{columns_count, columns_as, columns_then, column
 use Rattle.stretch.specs.Stretch.{Has, column_of, set_on}
 use Rattle.stretch.proofs.Laws.{has_same, seen, set_columns, set_two}
 use Rattle.write.specs.Write.{covers}
-use Rattle.change.specs.declared.Parities.{Parities}
 use Rattle.change.specs.Changed.{changed_by}
 
 pub stretch_lift : {g : Geometry} {offset count : ℕ} {f : ℕ → Column → Column} {s t : List ℕ} → WellShaped g s → offset + count ≤ g.b
@@ -43,12 +43,12 @@ stretch_lift {g} {offset} {count} {f} {s} {t} shaped fits step =
         (below_or_not i offset)
 
 -- P, Q and the disk's bytes set one after the other, d being the new bytes as a chunk
-pub written_is : {g : Geometry} {disk i w c : ℕ} (new : List ℕ) {s t u v old p q d : List ℕ} {after : Parities} → Has g s i w → disk < g.n → c ≡ power 2 disk
+pub written_is : {g : Geometry} {disk i w c : ℕ} (new : List ℕ) {s t u v old p q d : List ℕ} {after : Sums} → Has g s i w → disk < g.n → c ≡ power 2 disk
     → old ≡ each (λ j. column_of g s i w j disk)
     → p ≡ each (λ j. column_of g s i w j g.n)
     → q ≡ each (λ j. column_of g s i w j (g.n + 1))
     → d ≡ each (λ j. get_or new j 0)
-    → after ≡ changed_by c old d p q
+    → after ≡ changed_by c old d (record { p = p; q = q })
     → t ≡ set_on g (g.n + 1) i w after.q s
     → u ≡ set_on g g.n i w after.p t
     → v ≡ set_on g disk i w d u
@@ -61,8 +61,8 @@ written_is {g} {disk} {i} {w} {c} new {s} {d = d} {after = after} h known is_c i
     let small : j < width = omega (arith, h.held) in
     let change = ap₂ sum (seen h (λ e. e disk) is_old j l) (at is_d j small) in
     ap₂ (λ (x y : ℕ). put disk (get_or d j 0) (put g.n x (put (g.n + 1) y (column g s (i + j)))))
-    (ap (λ (r : Parities). get_or r.p j 0) is_after ∙ each_at _ j small ∙ ap₂ sum (seen h (λ e. e g.n) is_p j l) change)
-    (ap (λ (r : Parities). get_or r.q j 0) is_after ∙ each_at _ j small ∙ ap₂ sum (seen h (λ e. e (g.n + 1)) is_q j l) (ap₂ product is_c change))
+    (ap (λ (r : Sums). get_or r.p j 0) is_after ∙ each_at _ j small ∙ ap₂ sum (seen h (λ e. e g.n) is_p j l) change)
+    (ap (λ (r : Sums). get_or r.q j 0) is_after ∙ each_at _ j small ∙ ap₂ sum (seen h (λ e. e (g.n + 1)) is_q j l) (ap₂ product is_c change))
     ∙ ap (λ (x : ℕ). put disk x (put g.n (sum (column g s (i + j) g.n) (sum (column g s (i + j) disk) (get_or new j 0))) (put (g.n + 1) (sum (column g s (i + j) (g.n + 1)) (product (power 2 disk) (sum (column g s (i + j) disk) (get_or new j 0)))) (column g s (i + j))))) (at is_d j small))
   where
     at : d ≡ each (λ j. get_or new j 0) → (j : ℕ) → j < width → get_or d j 0 ≡ get_or new j 0

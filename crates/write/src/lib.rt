@@ -10,7 +10,7 @@ ghost use Rattle.shape.specs.Columns.{ColumnsMapped};
 ghost use Rattle.stretch.specs.Stretch.{Has};
 ghost use Rattle.write.specs.Write.{WriteCall};
 
-use chunk::WIDTH;
+use chunk::{Sums, WIDTH};
 use gf256::Element;
 use shape::Geometry;
 
@@ -56,7 +56,7 @@ fn write_chunk(g: Geometry, stripe: &mut [u8], disk: usize, i: usize, c: Element
     let p = stretch::load(g, stripe, g.n, i, WIDTH);
     let q = stretch::load(g, stripe, g.n + 1, i, WIDTH);
     let new = chunk::load(new);
-    let after = change::changed(c, old, new, p, q);
+    let after = change::changed(c, old, new, Sums { p, q });
     let p = after.p;
     let q = after.q;
     stretch::set(g, stripe, g.n + 1, i, WIDTH, q);
@@ -74,7 +74,7 @@ fn write_part(g: Geometry, stripe: &mut [u8], disk: usize, i: usize, c: Element,
     let p = stretch::load(g, stripe, g.n, i, w);
     let q = stretch::load(g, stripe, g.n + 1, i, w);
     let new = chunk::load(new);
-    let after = change::changed(c, old, new, p, q);
+    let after = change::changed(c, old, new, Sums { p, q });
     let p = after.p;
     let q = after.q;
     stretch::set(g, stripe, g.n + 1, i, w, q);

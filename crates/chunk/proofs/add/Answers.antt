@@ -4,4 +4,4 @@ use Rattle.base.proofs.Fill.{fill_all}
 use Rattle.chunk.proofs.add.Goals as goal
 
 pub returns : goal.returns
-returns c = fill_all c.loop-j.invariant.1 (omega arith)
+returns c = fill_all c.loop-j.invariant (omega arith)

@@ -1,5 +1,4 @@
--- `chunk::add` meets its contract. The loop's invariant: the places below j are summed. The measure is what is left.
-use Prim.Native.Nat.{◌-◌, ◌≤◌}
+-- `chunk::add` meets its contract. The loop's invariant: the places below j are summed.
 use lib.ListN.{get_or}
 use Rattle.gf256.specs.Field.{sum}
 use Rattle.base.proofs.Fill.{Filled}
@@ -7,7 +6,4 @@ use Rattle.chunk.specs.Chunk.{width}
 use Rattle.chunk.proofs.add.Given as goal
 
 abbrev pub invariant-loop-j : goal.invariant-loop-j
-invariant-loop-j l = (l.j ≤ width) × Filled (λ j v. sum v (get_or l.d j 0)) width l.initial.a l.a l.j
-
-abbrev pub decreases-loop-j : goal.decreases-loop-j
-decreases-loop-j l = width - l.j
+invariant-loop-j l = Filled (λ j v. sum v (get_or l.d j 0)) width l.initial.a l.a l.j

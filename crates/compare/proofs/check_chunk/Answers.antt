@@ -5,7 +5,7 @@ use lib.ListN.{length}
 use Rattle.base.proofs.Table.{tabulate_same}
 use Rattle.column.specs.Column.{syndrome_p, syndrome_q, reed_solomon, verdict_of}
 use Rattle.stretch.proofs.Laws.{seen}
-use Rattle.sums.specs.declared.Sums.{Sums}
+use Rattle.chunk.specs.declared.Sums.{Sums}
 use Rattle.verdict.proofs.Summary.{summary_as}
 use Rattle.compare.proofs.check_chunk.Goals as goal
 

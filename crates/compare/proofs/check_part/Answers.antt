@@ -8,7 +8,7 @@ use Rattle.losses.specs.Losses.{without}
 use Rattle.losses.proofs.Without.{none_lost}
 use Rattle.shape.specs.Layout.{column}
 use Rattle.stretch.proofs.Laws.{seen}
-use Rattle.sums.specs.declared.Sums.{Sums}
+use Rattle.chunk.specs.declared.Sums.{Sums}
 use Rattle.verdict.proofs.Summary.{summary_as}
 use Rattle.compare.proofs.check_part.Goals as goal
 

@@ -6,6 +6,7 @@ use lib.ListN.{length, get_or, replicate, get_or-replicate}
 use Rattle.gf256.specs.Field.{element}
 use Rattle.base.proofs.Table.{get_d_tabulate, is_tabulate, tabulate_same}
 use Rattle.chunk.specs.Chunk.{width, each, plus}
+use Rattle.chunk.specs.declared.Sums.{Sums}
 use Rattle.products.specs.Products.{plus_product}
 use Rattle.losses.specs.declared.Restored.{Restored}
 use Rattle.losses.specs.declared.Rule.TheVariants.{Mixed}
@@ -19,18 +20,18 @@ whole : (l : List ℕ) → length l ≡ width → l ≡ each (λ j. get_or l j 0
 whole l long = is_tabulate width (λ j. get_or l j 0) l long (λ j h. refl)
 
 -- the steps of a mixed rule
-mixed : (a b : ℕ) (p q : List ℕ) {some first second : List ℕ} → some ≡ plus_product (replicate width 0) a p → first ≡ plus_product some b q → second ≡ plus p first
-    → pair first second ≡ solutions (Mixed (element a) (element b)) p q
-mixed a b p q {first = first} s d e = ap₂ pair is (e ∙ tabulate_same width (λ j h. rw (is, get_d_tabulate)))
+mixed : (a b : ℕ) (s : Sums) {some first second : List ℕ} → some ≡ plus_product (replicate width 0) a s.p → first ≡ plus_product some b s.q → second ≡ plus s.p first
+    → pair first second ≡ solutions (Mixed (element a) (element b)) s
+mixed a b s {first = first} one d e = ap₂ pair is (e ∙ tabulate_same width (λ j h. rw (is, get_d_tabulate)))
   where
-    is : first ≡ (solutions (Mixed (element a) (element b)) p q).first
-    is = d ∙ tabulate_same width (λ j h. rw (s, get_d_tabulate, get_or-replicate))
+    is : first ≡ (solutions (Mixed (element a) (element b)) s).first
+    is = d ∙ tabulate_same width (λ j h. rw (one, get_d_tabulate, get_or-replicate))
 
 pub returns-in-Mixed : goal.returns-in-Mixed
 returns-in-Mixed c =
     let a = c.args in
     rw c.in-Mixed.is
-    (mixed _ _ a.p a.q c.add_product.ensures c.add_product-in-Mixed.ensures c.add.ensures)
+    (mixed _ _ a.sums c.add_product.ensures c.add_product-in-Mixed.ensures c.add.ensures)
 
 pub returns-in-Carried : goal.returns-in-Carried
-returns-in-Carried c = rw c.in-Carried.is (ap₂ pair (whole c.args.p c.well_formed.1.0.1.0.1) c.add_product-in-Carried.ensures)
+returns-in-Carried c = rw c.in-Carried.is (ap₂ pair (whole c.args.sums.p c.well_formed.1.0.1.1.0.1.0.1) c.add_product-in-Carried.ensures)

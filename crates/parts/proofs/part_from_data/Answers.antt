@@ -8,7 +8,7 @@ use Rattle.losses.proofs.Without.{parities_lost}
 use Rattle.shape.specs.Layout.{column}
 use Rattle.shape.proofs.Columns.{columns_as, columns_all}
 use Rattle.stretch.proofs.Laws.{seen, set_columns, set_two}
-use Rattle.sums.specs.declared.Sums.{Sums}
+use Rattle.chunk.specs.declared.Sums.{Sums}
 use Rattle.parts.proofs.part_from_data.Goals as goal
 
 pub returns-then-both : goal.returns-then-both

@@ -14,7 +14,7 @@ use Rattle.products.proofs.Digits.{plus_bit_lem, combined_none, combined_more}
 use Rattle.products.proofs.combine.Goals as goal
 
 pub loop-k-init : goal.loop-k-init
-loop-k-init c = (omega arith, refl, λ j h. get_or-replicate width j 0 0 h ∙ sym (combined_none c.args.a.0 c.args.b.0 (get_or c.args.p j 0) (get_or c.args.q j 0) (omega arith) (omega arith)))
+loop-k-init c = (refl, λ j h. get_or-replicate width j 0 0 h ∙ sym (combined_none c.args.a.0 c.args.b.0 (get_or c.args.p j 0) (get_or c.args.q j 0) (omega arith) (omega arith)))
 
 pub loop-k-preserved : goal.loop-k-preserved
 loop-k-preserved c =
@@ -23,7 +23,6 @@ loop-k-preserved c =
     let l = c.loop-k in
     let k = l.k - 1 in
     let next : l.k ≡ k + 1 = omega arith in (
-      omega arith,
       ap length c.add_bits.ensures ∙ length_tabulate width _,
       λ j h.
           let x = get_or c.args.p j 0 in
@@ -32,7 +31,7 @@ loop-k-preserved c =
           ∙ get_d_tabulate width _ j 0 h
           ∙ plus_bit_lem (plus_bit (double (get_or l.d j 0)) (a / 2 ^ k) x) (b / 2 ^ k) y ((let x = c.well_formed.1.1.1.0 in (elem_Fits w8 w8 c.args.q x.0 j x.1.1 tt).fits))
           ∙ ap (λ (v : ℕ). sum v (product (b / 2 ^ k % 2) y)) (plus_bit_lem (double (get_or l.d j 0)) (a / 2 ^ k) x ((let x = c.well_formed.1.0 in (elem_Fits w8 w8 c.args.p x.0 j x.1.1 tt).fits)))
-          ∙ combined_more a b x y k (omega arith) (omega arith) (l.invariant.2 j h ∙ ap (λ (m : ℕ). sum (product (a / 2 ^ m) x) (product (b / 2 ^ m) y)) next),
+          ∙ combined_more a b x y k (omega arith) (omega arith) (l.invariant.1 j h ∙ ap (λ (m : ℕ). sum (product (a / 2 ^ m) x) (product (b / 2 ^ m) y)) next),
     )
 
 pub returns : goal.returns
@@ -40,4 +39,4 @@ returns c =
     let l = c.loop-k in
     let a = c.args in
     let all : l.k ≡ 0 = omega arith in
-    is_tabulate width _ l.d l.invariant.1 (λ j h. l.invariant.2 j h ∙ ap (λ (m : ℕ). sum (product (a.a.0 / 2 ^ m) (get_or a.p j 0)) (product (a.b.0 / 2 ^ m) (get_or a.q j 0))) all ∙ ap₂ (λ (x y : ℕ). sum (product x (get_or a.p j 0)) (product y (get_or a.q j 0))) (omega arith) (omega arith))
+    is_tabulate width _ l.d l.invariant.0 (λ j h. l.invariant.1 j h ∙ ap (λ (m : ℕ). sum (product (a.a.0 / 2 ^ m) (get_or a.p j 0)) (product (a.b.0 / 2 ^ m) (get_or a.q j 0))) all ∙ ap₂ (λ (x y : ℕ). sum (product x (get_or a.p j 0)) (product y (get_or a.q j 0))) (omega arith) (omega arith))

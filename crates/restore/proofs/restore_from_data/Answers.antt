@@ -6,7 +6,7 @@ use Rattle.column.specs.Column.{put, parity_p, parity_q, reed_solomon}
 use Rattle.shape.specs.Layout.{column}
 use Rattle.shape.proofs.Columns.{columns_as}
 use Rattle.stretch.proofs.Laws.{seen, set_columns, set_two}
-use Rattle.sums.specs.declared.Sums.{Sums}
+use Rattle.chunk.specs.declared.Sums.{Sums}
 use Rattle.restore.proofs.restore_from_data.Goals as goal
 
 pub returns-then-both : goal.returns-then-both

@@ -10,7 +10,7 @@ use Rattle.losses.proofs.Without.{solved_carried}
 use Rattle.shape.specs.Layout.{column}
 use Rattle.shape.proofs.Columns.{columns_as}
 use Rattle.stretch.proofs.Laws.{seen, set_two}
-use Rattle.sums.specs.declared.Sums.{Sums}
+use Rattle.chunk.specs.declared.Sums.{Sums}
 use Rattle.restore.proofs.set_carried.Goals as goal
 
 pub returns : goal.returns

@@ -6,4 +6,4 @@ pub returns : goal.returns
 returns c =
     let a = c.args in
     let sums = c.requires.3 in
-    set_solved c.requires.0 a.rule a.p a.q c.requires.1 c.requires.2 sums.first sums.second c.solve-new.ensures c.set.ensures c.set-2.ensures
+    set_solved c.requires.0 a.rule (record { p = a.p; q = a.q }) c.requires.1 c.requires.2 sums.first sums.second c.solve-new.ensures c.set.ensures c.set-2.ensures

@@ -13,6 +13,7 @@ use Rattle.losses.specs.Losses.{without}
 use Rattle.stretch.specs.Stretch.{column_of}
 use Rattle.sums.specs.Sums.{tail_p, tail_q, Tails}
 use Rattle.sums.specs.Strip.{strip, strip_column, stage_p, stage_q}
+use Rattle.sums.proofs.Horner.{two}
 use Rattle.sums.proofs.Strips.{chunk_loaded, chunk_stored, chunk_column}
 use Rattle.sums.proofs.add_to_strip.Goals as goal
 
@@ -32,10 +33,10 @@ loop-m-preserved c =
     let f : ℕ → Column = λ j. without a.x a.y (column_of a.g a.stripe.now (a.i + k) width j) in
     let same : (j : ℕ) → j < width → f j ≡ strip_column a.g a.stripe.now a.i a.x a.y (k + j) = chunk_column c.requires.0 k fits a.x a.y in
     let some = ne_eqb a.to 0 (omega (arith, c.requires.1)) in
-    let tails : Tails n a.to f c.load-a.result c.load-b.result =
+    let tails : Tails n a.to f (two c.load.result c.load-in-loop-m.result) =
     record {
-      first = chunk_loaded l.invariant.1 fits _ (λ j. tail_p n a.to (f j)) c.requires.3.first c.load-a.ensures (λ j h. rw some (ap (tail_p n a.to) (sym (same j h))));
-      second = chunk_loaded l.invariant.2 fits _ (λ j. tail_q n a.to (f j)) c.requires.3.second c.load-b.ensures (λ j h. rw some (ap (tail_q n a.to) (sym (same j h))));
+      first = chunk_loaded l.invariant.1 fits _ (λ j. tail_p n a.to (f j)) c.requires.3.first c.load.ensures (λ j h. rw some (ap (tail_p n a.to) (sym (same j h))));
+      second = chunk_loaded l.invariant.2 fits _ (λ j. tail_q n a.to (f j)) c.requires.3.second c.load-in-loop-m.ensures (λ j h. rw some (ap (tail_q n a.to) (sym (same j h))));
     } in
     let done = c.add_group.ensures tails in
     (omega (arith, fits), chunk_stored l.invariant.1 fits (λ j. stage_p n a.from (f j)) next done.first (λ j h. ap (stage_p n a.from) (same j h)) c.store.ensures (Post-is k (k + width) l.p (omega arith)), chunk_stored l.invariant.2 fits (λ j. stage_q n a.from (f j)) next done.second (λ j h. ap (stage_q n a.from) (same j h)) c.store-in-loop-m.ensures (Post-is k (k + width) l.q (omega arith)))

@@ -10,6 +10,6 @@ returns c =
     let first = c.add_disk.ensures in
     let sums = c.add_disks in
     let some = c.requires.1 in
-    chunk_passed sums.new.p sums.new.q some
+    chunk_passed sums.new.sums some
     (chunk_begun d.result c.requires.0 some d.ensures (λ j. (elem_Fits w8 w8 d.result d.type_inv.0 j d.type_inv.1.1 tt).fits) first.0 first.1 sums.ensures)
     c.set_sums.ensures

@@ -6,6 +6,6 @@ use Rattle.sums.proofs.carry_chunk.Goals as goal
 pub returns : goal.returns
 returns c =
     let sums = c.add_disks in
-    chunk_passed sums.new.p sums.new.q (omega (arith, c.requires))
-    (chunk_carried c.requires.0 c.requires.2 c.chunk_at-p.ensures c.chunk_at-q.ensures sums.ensures)
+    chunk_passed sums.new.sums (omega (arith, c.requires))
+    (chunk_carried c.requires.0 c.requires.2 c.chunk_at.ensures c.chunk_at-2.ensures sums.ensures)
     c.set_sums.ensures

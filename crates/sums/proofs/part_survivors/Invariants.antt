@@ -6,7 +6,7 @@ use Rattle.sums.specs.Sums.{Tails}
 use Rattle.sums.proofs.part_survivors.Given as goal
 
 abbrev pub invariant-loop-k : goal.invariant-loop-k
-invariant-loop-k l = (l.k ≤ l.g.n) × Tails l.g.n l.k (λ j. without l.x l.y (column_of l.g l.stripe l.i l.w j)) l.p l.q
+invariant-loop-k l = (l.k ≤ l.g.n) × Tails l.g.n l.k (λ j. without l.x l.y (column_of l.g l.stripe l.i l.w j)) l.sums
 
 abbrev pub decreases-loop-k : goal.decreases-loop-k
 decreases-loop-k l = l.k

@@ -1,7 +1,0 @@
--- `chunk::add_disk` meets its contract.
-use native.Mathlib.Omega.{arith}
-use Rattle.base.proofs.Fill.{fill_all}
-use Rattle.chunk.proofs.add_disk.Goals as goal
-
-pub returns : goal.returns
-returns c = (fill_all c.loop-i.invariant.1 (omega arith), fill_all c.loop-i.invariant.2 (omega arith))
