@@ -10,26 +10,24 @@ use Rattle.roster_buffers.proofs.Kept.{holds_taken, holds_left, taken_room}
 use Rattle.roster_buffers.proofs.take_all.Goals as goal
 use Rattle.roster_buffers.proofs.take_all.Goals.{then-is_taken, else-is_taken}
 
-pub loop-i-preserved : goal.loop-i-preserved
-loop-i-preserved c =
+pub loop-c-preserved : goal.loop-c-preserved
+loop-c-preserved c =
     let a = c.args in
-    let l = c.loop-i in
-    let byte = get_or a.more.now l.i 0 in
-    let next : take a.count a.held.now ++ take (l.i + 1) a.more.now ≡ (take a.count a.held.now ++ take l.i a.more.now) ++ (byte ∷ []) =
-    rw (add-one, take-suc a.more.now l.i 0 (omega arith)) (sym (append_assoc (take a.count a.held.now) (take l.i a.more.now) (byte ∷ [])))
+    let l = c.loop-c in
+    let byte = get_or a.more.now l.c-index 0 in
+    let next : take a.count a.held.now ++ take (l.c-index + 1) a.more.now ≡ (take a.count a.held.now ++ take l.c-index a.more.now) ++ (byte ∷ []) =
+    rw (add-one, take-suc a.more.now l.c-index 0 (omega arith)) (sym (append_assoc (take a.count a.held.now) (take l.c-index a.more.now) (byte ∷ [])))
     in
     elim c.if-is_taken.branch [
       | then-is_taken w ↦
           let is = sym c.is_taken.ensures ∙ w.if-is_taken.true in (
-            omega arith,
-            rw w.held-is (length-set l.held l.n byte ∙ l.invariant.1),
-            rw (w.held-is, w.n-is, next) (holds_taken l.held l.invariant.1 byte l.invariant.2 is (taken_room l.n byte is)),
-            rw (w.held-is, w.n-is) (drop-set-lt (l.n + 1) l.held l.n byte (omega arith) ∙ sym (drop-drop 1 l.n l.held) ∙ ap (drop 1) l.invariant.3 ∙ drop-drop 1 l.n a.held.now),
+            rw w.held-is (length-set l.held l.n byte ∙ l.invariant.0),
+            rw (w.held-is, w.n-is, next) (holds_taken l.held l.invariant.0 byte l.invariant.1 is (taken_room l.n byte is)),
+            rw (w.held-is, w.n-is) (drop-set-lt (l.n + 1) l.held l.n byte (omega arith) ∙ sym (drop-drop 1 l.n l.held) ∙ ap (drop 1) l.invariant.2 ∙ drop-drop 1 l.n a.held.now),
           )
       | else-is_taken w ↦ (
-        omega arith,
-        rw w.held-is l.invariant.1,
-        rw (w.held-is, w.n-is, next) (holds_left l.held l.invariant.1 byte l.invariant.2 (sym c.is_taken.ensures ∙ w.if-is_taken.false)),
-        rw (w.held-is, w.n-is) l.invariant.3,
+        rw w.held-is l.invariant.0,
+        rw (w.held-is, w.n-is, next) (holds_left l.held l.invariant.0 byte l.invariant.1 (sym c.is_taken.ensures ∙ w.if-is_taken.false)),
+        rw (w.held-is, w.n-is) l.invariant.2,
       )
     ]
