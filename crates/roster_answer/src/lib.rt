@@ -98,6 +98,7 @@ fn put(words: &[u8], out: &mut [u8]) -> usize
     words.len()
 }
 
+// By hand, as all words here: `write!` promises its bytes only where it succeeds, and nowhere that it does.
 #[tactic(auto, unfolding(crate::specs::Words::decimal))]
 fn put_decimal(n: usize, out: &mut [u8]) -> usize
     requires { 3 ≤ length out.old }

@@ -36,32 +36,23 @@ impl<const N: usize> Filled<N> {
 pub fn take_in(held: &mut Filled<HELD>, more: &[u8])
     ensures { Begins (kept (take held.old.count held.old.bytes ++ more.now)) held.old.bytes held.new.count held.new.bytes }
 {
-    held.count = take_all(&mut held.bytes, held.count, more);
-}
-
-fn take_all(held: &mut [u8], count: usize, more: &[u8]) -> usize
-    requires { length held.old ≡ held_size }
-    ensures { Begins (kept (take count held.old ++ more.now)) held.old result held.new }
-{
-    let mut n = count_held(held, count);
+    held.count = count_held(held);
     for c in more {
-        if is_taken(n, *c) {
-            held[n] = *c;
-            n += 1;
+        if is_taken(held.count, *c) {
+            held.bytes[held.count] = *c;
+            held.count += 1;
         }
     }
-    n
 }
 
 // How many of the first `count` bytes are kept.
-fn count_held(held: &[u8], count: usize) -> usize
-    requires { length held.now ≡ held_size }
-    ensures { Holds held.now result (take count held.now) }
+fn count_held(held: &Filled<HELD>) -> usize
+    ensures { Holds held.now.bytes result (take held.now.count held.now.bytes) }
 {
-    if count <= KEPT {
-        return count;
+    if held.count <= KEPT {
+        return held.count;
     }
-    if is_taken(KEPT, held[KEPT]) {
+    if is_taken(KEPT, held.bytes[KEPT]) {
         return HELD;
     }
     KEPT
