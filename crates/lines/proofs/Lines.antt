@@ -1,21 +1,18 @@
--- The laws of lines: a test for bad characters may go on from any place; and the first line of a text, by the bytes that begin it.
+-- The laws of lines: the test for bad characters in the library's word; and the first line of a text, by the bytes that begin it.
 -- Assumes nothing.
-use mathlib.Core.Path.{◌≡◌, refl}
-use mathlib.Core.Bool.{true, false}
+use mathlib.Core.Path.{◌≡◌, refl, ap}
+use mathlib.Core.Bool.{true, false, not}
 use mathlib.Core.List.{List, [], ◌∷◌, ◌++◌}
-use Prim.Native.Nat.{ℕ, suc, ◌<◌}
+use Prim.Native.Nat.{ℕ}
 use lib.Dec.{eqb}
-use lib.ListN.{length, get_or, drop}
-use lib.Seq.{drop-cons}
+use Rattle.std.specs.List.{list_any}
+use Rattle.base.specs.Choice.{either}
 use Rattle.lines.specs.Lines.{line_feed, lines, is_character, has_bad}
 
--- ---- a bad character
-module _ (s : List ℕ) (i : ℕ) (h : i < length s) where
-  pub bad_here : is_character (get_or s i 0) ≡ false → has_bad (drop i s) ≡ true
-  bad_here e = rw (drop-cons s i 0 h, e)
-
-  pub bad_later : is_character (get_or s i 0) ≡ true → has_bad (drop i s) ≡ has_bad (drop (suc i) s)
-  bad_later e = rw (drop-cons s i 0 h, e)
+-- ---- a bad character, in the library's word
+pub any_bad : (s : List ℕ) → list_any (λ c. not (is_character c)) s ≡ has_bad s
+any_bad [] = refl
+any_bad (c ∷ s) = ap (either (not (is_character c))) (any_bad s)
 
 -- ---- the first line of a text, by the bytes that begin it, none of them a line feed
 abbrev pub Unfed : List ℕ → Type 0

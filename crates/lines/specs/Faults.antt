@@ -1,12 +1,10 @@
 -- The faults of a roster: the tests of a line in their order, and the search for the first line that fails one.
-use Rattle.std.specs.Prelude.{ℕ, zero, suc, Bool, not, List, [], ◌∷◌, ◌++◌, eqb, ltb, length}
+use Rattle.std.specs.Prelude.{ℕ, zero, suc, Bool, not, Result, Ok, Err, is_some, List, [], ◌∷◌, ◌++◌, eqb, ltb, length}
 use Rattle.base.specs.Choice.{either}
 use Rattle.base.specs.Refusal.{Refusal, first_of, Answer}
-use Rattle.serials.specs.LookUp.{look_up, is_found}
+use Rattle.serials.specs.LookUp.{look_up}
 use Rattle.lines.specs.declared.Fault.{Fault}
 use Rattle.lines.specs.declared.Fault.TheVariants.{BadCharacter, BadLength, NoLineFeed, Repeated, PastLast}
-use Rattle.lines.specs.declared.Judged.{Judged}
-use Rattle.lines.specs.declared.Judged.TheVariants.{Fine, Faulty}
 use Rattle.lines.specs.Lines.{Line, has_bad}
 
 -- the paper's numbers
@@ -17,9 +15,9 @@ number_of NoLineFeed = 32
 number_of Repeated = 33
 number_of PastLast = 34
 
-abbrev pub judged_number : Judged → ℕ
-judged_number Fine = 0
-judged_number (Faulty f) = number_of f
+abbrev pub judged_number : Result Unit Fault → ℕ
+judged_number (Ok done) = 0
+judged_number (Err f) = number_of f
 
 -- the tests of a line that stands after lines with these serials
 abbrev pub line_refusals : List (List ℕ) → Line → List Refusal
@@ -27,7 +25,7 @@ line_refusals before l =
     record { number = 30; applies = has_bad l.serial }
     ∷ record { number = 31; applies = either (eqb (length l.serial) 0) (ltb 20 (length l.serial)) }
     ∷ record { number = 32; applies = not l.ended }
-    ∷ record { number = 33; applies = is_found (look_up before l.serial) }
+    ∷ record { number = 33; applies = is_some (look_up before l.serial) }
     ∷ record { number = 34; applies = ltb 257 (suc (length before)) }
     ∷ []
 

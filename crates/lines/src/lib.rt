@@ -1,10 +1,12 @@
 // A line of a roster text, and what can be wrong with one.
 #![tactic(auto)]
 
-ghost use Rattle.std.specs.Prelude.{◌≡◌};
-ghost use Rattle.serials.specs.Serials.{serials};
-ghost use Rattle.lines.specs.Lines.{is_character, has_bad};
-ghost use Rattle.lines.specs.Faults.{judged_number, line_number};
+ghost use Rattle.std.specs.Prelude.{◌≡◌, not};
+ghost use Rattle.std.specs.List.{list_any};
+ghost use Rattle.lines.specs.Lines.{is_character};
+ghost use Rattle.lines.specs.Faults.{number_of, judged_number, line_number};
+
+use serials::Serials;
 
 // The most lines: 255 data disks, P and Q.
 pub const MOST: usize = 257;
@@ -12,74 +14,56 @@ pub const MOST: usize = 257;
 // The most characters of a serial.
 pub const LONGEST: usize = 20;
 
-// What can be wrong with a line.
+// What can be wrong with a line, each with its number.
 #[derive(Clone, Copy)]
 pub enum Fault {
-    BadCharacter,
-    BadLength,
-    NoLineFeed,
-    Repeated,
-    PastLast,
+    BadCharacter = 30,
+    BadLength = 31,
+    NoLineFeed = 32,
+    Repeated = 33,
+    PastLast = 34,
 }
 
-// What the tests of a line say.
-#[derive(Clone, Copy)]
-pub enum Judged {
-    Fine,
-    Faulty(Fault),
+impl From<Fault> for u8 {
+    ghost from_gives = { λ fault number. number ≡ number_of fault };
+
+    fn from(fault: Fault) -> u8 {
+        fault as u8
+    }
 }
 
-// The first test that a line fails. The serials of the lines before it are lent.
-#[tactic(auto, using(serials::proofs::Laws::length_serials), unfolding(crate::specs::Faults::line_number))]
-pub fn judge(chars: &[u8], before: &[usize], serial: &[u8], ended: bool) -> Judged
-    ensures { judged_number result ≡ line_number (serials chars.now before.now) serial.now ended }
+// The first test that a line fails, if it fails one. The serials of the lines before it are lent.
+#[tactic(auto, using(crate::proofs::Lines::any_bad), unfolding(crate::specs::Faults::line_number))]
+pub fn judge(before: &Serials<'_>, serial: &[u8], ended: bool) -> Result<(), Fault>
+    ensures { judged_number result ≡ line_number before.now serial.now ended }
 {
     if has_bad(serial) {
-        return Judged::Faulty(Fault::BadCharacter);
+        return Err(Fault::BadCharacter);
     }
-    if serial.len() == 0 {
-        return Judged::Faulty(Fault::BadLength);
-    }
-    if LONGEST < serial.len() {
-        return Judged::Faulty(Fault::BadLength);
+    if serial.is_empty() || LONGEST < serial.len() {
+        return Err(Fault::BadLength);
     }
     if !ended {
-        return Judged::Faulty(Fault::NoLineFeed);
+        return Err(Fault::NoLineFeed);
     }
-    if serials::is_found(serials::find(chars, before, serial)) {
-        return Judged::Faulty(Fault::Repeated);
+    if before.find(serial).is_some() {
+        return Err(Fault::Repeated);
     }
     if MOST <= before.len() {
-        return Judged::Faulty(Fault::PastLast);
+        return Err(Fault::PastLast);
     }
-    Judged::Fine
+    Ok(())
 }
 
 fn has_bad(serial: &[u8]) -> bool
-    ensures { result ≡ has_bad serial.now }
+    ensures { result ≡ list_any (λ c. not (is_character c)) serial.now }
 {
-    let mut i = 0;
-    while i < serial.len() {
-        if !is_character(serial[i]) {
-            return true;
-        }
-        i += 1;
-    }
-    false
+    serial.iter().any(|c| !is_character(*c))
 }
 
 // A capital letter or a digit.
 pub fn is_character(c: u8) -> bool
     ensures { result ≡ is_character c }
 {
-    if c < b'0' {
-        return false;
-    }
-    if c <= b'9' {
-        return true;
-    }
-    if c < b'A' {
-        return false;
-    }
-    c <= b'Z'
+    matches!(c, b'0'..=b'9' | b'A'..=b'Z')
 }

@@ -15,7 +15,7 @@ use lib.Seq.{length-take-le, get_or-take}
 use Rattle.base.specs.Choice.{either}
 use Rattle.base.proofs.Choice.{either_false, below_or_not}
 use Rattle.base.proofs.Refused.{NoneApplies, none_applies}
-use Rattle.serials.specs.declared.Found.TheVariants.{Slot, Nowhere}
+use Rattle.std.specs.Prelude.{Some, None}
 use Rattle.serials.specs.LookUp.{look_up}
 use Rattle.serials.proofs.LookUp.{not_found, held_nowhere, lowest_found, other_length}
 use Rattle.lines.specs.Lines.{Line, is_character, has_bad}
@@ -94,15 +94,15 @@ fits : (n : ℕ) → 1 ≤ n → n ≤ 20 → either (eqb n 0) (ltb 20 n) ≡ fa
 fits n some short = rw (ne_eqb n 0 (λ e. omega arith), le-ltb 20 n short)
 
 module _ {ss : List (List ℕ)} (roster : Roster ss) where
-  pub each_found : (k : ℕ) → k < length ss → look_up ss (get_or ss k []) ≡ Slot k
+  pub each_found : (k : ℕ) → k < length ss → look_up ss (get_or ss k []) ≡ Some k
   each_found k h =
       lowest_found ss (get_or ss k []) k
       record { there = h; same = refl; before = λ j l e. let same = roster.once j k (omega arith) h e in omega arith }
 
-  pub long_nowhere : (asked : List ℕ) → 20 < length asked → look_up ss asked ≡ Nowhere
+  pub long_nowhere : (asked : List ℕ) → 20 < length asked → look_up ss asked ≡ None
   long_nowhere asked l = other_length ss asked (λ j h e. let short = (roster.serial j h).short in omega arith)
 
-  none_before : (k : ℕ) → k < length ss → look_up (take k ss) (get_or ss k []) ≡ Nowhere
+  none_before : (k : ℕ) → k < length ss → look_up (take k ss) (get_or ss k []) ≡ None
   none_before k h =
       held_nowhere (take k ss) (get_or ss k [])
       (λ j l e.

@@ -1,12 +1,10 @@
 -- What the reader and the writer answer, and what they leave in every buffer that they are lent, refused or done.
-use Rattle.std.specs.Prelude.{ℕ, ◌≡◌, true, List, [], ◌∷◌, ◌++◌, map, ltb, length, drop}
+use Rattle.std.specs.Prelude.{ℕ, ◌≡◌, true, Result, Ok, Err, List, [], ◌∷◌, ◌++◌, map, ltb, length, drop}
 use Rattle.base.specs.Choice.{choose}
 use Rattle.base.specs.Refusal.{Answer, unless_refused}
-use Rattle.serials.specs.Serials.{serials}
-use Rattle.roster.specs.declared.Reading.{Reading}
-use Rattle.roster.specs.declared.Reading.TheVariants as reading
-use Rattle.roster.specs.declared.Written.{Written}
-use Rattle.roster.specs.declared.Written.TheVariants as written
+use Rattle.roster.specs.declared.FaultyLine.{FaultyLine}
+use Rattle.roster.specs.declared.WriteError.{WriteError}
+use Rattle.roster.specs.declared.WriteError.TheVariants.{Faulty, NoRoom}
 use Rattle.lines.specs.Lines.{Line, lines}
 use Rattle.lines.specs.Faults.{number_of, refused_at, first_fault}
 use Rattle.roster.specs.Text.{roster_text, line_ends}
@@ -15,14 +13,17 @@ use Rattle.roster.specs.Text.{roster_text, line_ends}
 abbrev pub done : ℕ → Answer
 done n = record { number = 0; values = n ∷ [] }
 
-abbrev pub read_of : Reading → Answer
-read_of (reading.Slots n) = done n
-read_of (reading.Refused f line) = refused_at (number_of f) line
+abbrev pub refused_line : FaultyLine → Answer
+refused_line e = refused_at (number_of e.fault) e.line
 
-abbrev pub written_of : Written → Answer
-written_of (written.Length n) = done n
-written_of (written.Refused f line) = refused_at (number_of f) line
-written_of written.NoRoom = refused_at 35 0
+abbrev pub read_of : Result ℕ FaultyLine → Answer
+read_of (Ok n) = done n
+read_of (Err e) = refused_line e
+
+abbrev pub written_of : Result ℕ WriteError → Answer
+written_of (Ok n) = done n
+written_of (Err (Faulty e)) = refused_line e
+written_of (Err NoRoom) = refused_at 35 0
 
 -- ---- the reader
 unfoldable pub read_answer : List ℕ → Answer
@@ -46,10 +47,10 @@ abbrev pub begun_with : List ℕ → List ℕ → List ℕ
 begun_with new old = new ++ drop (length new) old
 
 -- ---- the contracts: the answer and the final buffer, each equal to its definition
-pub record ReadCall (text before : List ℕ) (r : Reading) (after : List ℕ) : Type 0 where
+pub record ReadCall (text before : List ℕ) (r : Result ℕ FaultyLine) (after : List ℕ) : Type 0 where
   pub answer : read_of r ≡ read_answer text
   pub ends : after ≡ unless_refused (read_answer text).number (begun_with (line_ends text) before) before
 
-pub record WriteCall (chars ends before : List ℕ) (r : Written) (after : List ℕ) : Type 0 where
-  pub answer : written_of r ≡ write_answer (serials chars ends) (length before)
-  pub output : after ≡ unless_refused (write_answer (serials chars ends) (length before)).number (begun_with (roster_text (serials chars ends)) before) before
+pub record WriteCall (ss : List (List ℕ)) (before : List ℕ) (r : Result ℕ WriteError) (after : List ℕ) : Type 0 where
+  pub answer : written_of r ≡ write_answer ss (length before)
+  pub output : after ≡ unless_refused (write_answer ss (length before)).number (begun_with (roster_text ss) before) before

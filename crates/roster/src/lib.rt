@@ -3,51 +3,62 @@
 #![tactic(auto)]
 
 ghost use Rattle.std.specs.Prelude.{◌≡◌, ◌≤◌, length};
-ghost use Rattle.serials.specs.Serials.{serials};
 ghost use Rattle.lines.specs.Lines.{line_feed};
+ghost use Rattle.roster.specs.declared.WriteError.TheVariants.{Faulty};
 ghost use Rattle.roster.specs.Text.{roster_text, index_of};
-ghost use Rattle.roster.specs.Calls.{written_of, judge_answer, begun_with, ReadCall, WriteCall};
+ghost use Rattle.roster.specs.Calls.{read_of, judge_answer, begun_with, ReadCall, WriteCall};
 
-use lines::{Fault, Judged, MOST};
+use lines::{Fault, MOST};
+use serials::Serials;
 
-const LINE_FEED: u8 = 10;
+const LINE_FEED: u8 = b'\n';
 
-// A roster's slots, or the first fault and its line.
+// The first fault of some lines, and its line, counted from 1.
 #[derive(Clone, Copy)]
-pub enum Reading {
-    Slots(usize),
-    Refused(Fault, usize),
+pub struct FaultyLine {
+    pub fault: Fault,
+    pub line: usize,
 }
 
-// A written text's length; the first fault and its line; or too short an output.
+// Why serials are not written: the first fault, or too short an output.
 #[derive(Clone, Copy)]
-pub enum Written {
-    Length(usize),
-    Refused(Fault, usize),
+pub enum WriteError {
+    Faulty(FaultyLine),
     NoRoom,
 }
 
-// Reads a roster. Its serials are those that the text and the ends of its lines lend. Past its slots the ends stay,
-// and where the text is refused all do.
-pub fn read(text: &[u8], ends: &mut [usize; MOST]) -> Reading
+impl From<FaultyLine> for WriteError {
+    ghost from_gives = { λ faulty error. error ≡ Faulty faulty };
+
+    fn from(faulty: FaultyLine) -> WriteError {
+        WriteError::Faulty(faulty)
+    }
+}
+
+// Reads a roster, and answers the number of its slots. Its serials are those that the text and the ends of its lines
+// lend. Past its slots the ends stay, and where the text is refused all do.
+pub fn read(text: &[u8], ends: &mut [usize; MOST]) -> Result<usize, FaultyLine>
     ensures { ReadCall text.now ends.old result ends.new }
 {
-    let _ends: &[usize] = ends;
     let mut found = *ends;
     let mut slots = 0;
     let mut start = 0;
+    // a turn goes on by a whole line, whose length it finds first
     while start < text.len() {
         let end = start + line_length(&text[start..]);
-        let judged = lines::judge(text, &found[..slots], &text[start..end], end < text.len());
-        if let Judged::Faulty(fault) = judged {
-            return Reading::Refused(fault, slots + 1);
-        }
+        let before = Serials {
+            chars: text,
+            ends: &found[..slots],
+        };
+        let line = slots + 1;
+        let judged = lines::judge(&before, &text[start..end], end < text.len());
+        judged.map_err(|fault| FaultyLine { fault, line })?;
         found[slots] = end;
         slots += 1;
         start = end + 1;
     }
     *ends = found;
-    Reading::Slots(slots)
+    Ok(slots)
 }
 
 // How long the first line of a text is: to its line feed, or to the text's end.
@@ -60,51 +71,44 @@ fn line_length(text: &[u8]) -> usize
         .unwrap_or(text.len())
 }
 
-// Writes the text of any serials at the start of the output, whose other bytes stay; where it is refused, all do.
-pub fn write(chars: &[u8], ends: &[usize], out: &mut [u8]) -> Written
-    ensures { WriteCall chars.now ends.now out.old result out.new }
+// Writes the text of any serials at the start of the output, whose other bytes stay, and answers the text's length;
+// where it is refused, all do.
+pub fn write(lent: &Serials<'_>, out: &mut [u8]) -> Result<usize, WriteError>
+    ensures { WriteCall lent.now out.old result out.new }
 {
-    let judged = judge_all(chars, ends);
-    let Written::Length(length) = judged else {
-        return judged;
-    };
+    let length = judge_all(lent)?;
     if out.len() < length {
-        return Written::NoRoom;
+        return Err(WriteError::NoRoom);
     }
-    put_all(chars, ends, out);
-    judged
+    put_all(lent, out);
+    Ok(length)
 }
 
 // The first fault of serials to be written, or the length of their text.
-fn judge_all(chars: &[u8], ends: &[usize]) -> Written
-    ensures { written_of result ≡ judge_answer (serials chars.now ends.now) }
+fn judge_all(lent: &Serials<'_>) -> Result<usize, FaultyLine>
+    ensures { read_of result ≡ judge_answer lent.now }
 {
     let mut length = 0;
-    let mut slot = 0;
-    while slot < ends.len() {
-        let serial = serials::serial(chars, ends, slot);
-        let judged = lines::judge(chars, &ends[..slot], serial, true);
-        if let Judged::Faulty(fault) = judged {
-            return Written::Refused(fault, slot + 1);
-        }
+    for slot in 0..lent.len() {
+        let serial = lent.get(slot);
+        let line = slot + 1;
+        let judged = lines::judge(&lent.first(slot), serial, true);
+        judged.map_err(|fault| FaultyLine { fault, line })?;
         length += serial.len() + 1;
-        slot += 1;
     }
-    Written::Length(length)
+    Ok(length)
 }
 
-fn put_all(chars: &[u8], ends: &[usize], out: &mut [u8])
-    requires { length (roster_text (serials chars.now ends.now)) ≤ length out.old }
-    ensures { out.new ≡ begun_with (roster_text (serials chars.now ends.now)) out.old }
+fn put_all(lent: &Serials<'_>, out: &mut [u8])
+    requires { length (roster_text lent.now) ≤ length out.old }
+    ensures { out.new ≡ begun_with (roster_text lent.now) out.old }
 {
     let mut at = 0;
-    let mut slot = 0;
-    while slot < ends.len() {
-        let serial = serials::serial(chars, ends, slot);
+    for slot in 0..lent.len() {
+        let serial = lent.get(slot);
         out[at..at + serial.len()].copy_from_slice(serial);
         at += serial.len();
         out[at] = LINE_FEED;
         at += 1;
-        slot += 1;
     }
 }

@@ -1,15 +1,14 @@
--- The laws of a buffer that begins with new bytes: they are stored one by one, copied in, or follow others.
+-- The laws of a buffer that begins with new bytes: new bytes may follow others.
 -- Assumes nothing.
 use mathlib.Core.Path.{◌≡◌, sym, ap, ap₂, ◌∙◌}
 use mathlib.Core.Bool.{Bool, true, false}
 use mathlib.Core.List.{List, [], ◌∷◌, ◌++◌, append_assoc}
 use Prim.Native.Nat.{ℕ, ◌+◌, ◌-◌, ◌/◌, ◌≤◌}
-use native.Mathlib.Nat.{zero-add}
 use native.Mathlib.Omega.{arith}
 use borrow.Rule.Slice.PartMut.{put_mid}
 use lib.Dec.{ltb}
 use lib.ListN.{length, take, drop, length-append}
-use lib.Seq.{sets, sets-eq, take_all, take_at, drop_at, drop-drop}
+use lib.Seq.{take_at, drop_at, drop-drop}
 use Rattle.base.specs.Choice.{choose}
 use Rattle.base.proofs.Tails.{tail, put_tail}
 use Rattle.roster_answer.specs.Words.{digit, decimal}
@@ -24,16 +23,6 @@ digits_most n = go (ltb n 10) (ltb n 100)
     go true b = omega arith
     go false true = omega arith
     go false false = omega arith
-
-pub begins_stored : {new : List ℕ} (values out : List ℕ) → new ≡ values → length values ≤ length out → Begins new out (length values) (sets out 0 values)
-begins_stored values out is fits =
-    record {
-      count = ap length (sym is);
-      output = rw (is, sets-eq values out 0 (omega arith)) (ap (λ (n : ℕ). values ++ drop n out) (zero-add (length values)));
-    }
-
-pub begins_copied : (new : List ℕ) {out after : List ℕ} {r : ℕ} → r ≡ length new → after ≡ take (length new) new ++ drop (length new) out → Begins new out r after
-begins_copied new e is = record { count = e; output = rw (take_all (length new) new (omega arith)) at is }
 
 -- new bytes that follow others, in the part of the buffer after those
 pub begins_then : {a b out mid part : List ℕ} {m n : ℕ} → Begins a out m mid → Begins b (take (length mid - m) (drop m mid)) n part

@@ -7,7 +7,7 @@ use Prim.Native.Nat.{ℕ, ◌+◌, ◌*◌, ◌-◌, ◌/◌, ◌%◌, ◌<◌}
 use native.Mathlib.Omega.{arith}
 use borrow.Author.Tests.{lt-ltb, le-ltb}
 use Rattle.base.proofs.Choice.{below_or_not}
-use Rattle.serials.specs.declared.Found.TheVariants.{Slot}
+use Rattle.std.specs.Prelude.{Some}
 use Rattle.serials.specs.Serials.{serials}
 use Rattle.serials.specs.LookUp.{look_up}
 use Rattle.serials.specs.Lowest.{Tells}
@@ -40,7 +40,7 @@ decimal_means n h =
 pub line_small : (text : List ℕ) → (read_answer text).number ≢ 0 → value (read_answer text) < 1000
 line_small text n = omega (arith, refused_line_lem text n)
 
-pub slot_small : (text asked : List ℕ) (slot : ℕ) → (read_answer text).number ≡ 0 → look_up (serials text (line_ends text)) asked ≡ Slot slot → slot < 1000
+pub slot_small : (text asked : List ℕ) (slot : ℕ) → (read_answer text).number ≡ 0 → look_up (serials text (line_ends text)) asked ≡ Some slot → slot < 1000
 slot_small text asked slot e found =
     let ss = serials text (line_ends text) in
     let lowest = subst (Tells ss asked) found (look_up_tells ss asked) in

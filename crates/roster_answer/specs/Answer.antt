@@ -1,6 +1,5 @@
 -- What a fitter who asks for a serial is answered: its slot in the roster that a text holds, or why the text holds none.
-use Rattle.std.specs.Prelude.{ℕ, zero, suc, ◌≡◌, List, length, get_or}
-use Rattle.serials.specs.declared.Found.{Found}
+use Rattle.std.specs.Prelude.{ℕ, zero, suc, ◌≡◌, Option, List, length, get_or}
 use Rattle.serials.specs.Serials.{serials}
 use Rattle.serials.specs.LookUp.{look_up}
 use Rattle.roster.specs.Text.{line_ends}
@@ -8,7 +7,7 @@ use Rattle.roster.specs.Calls.{read_answer, begun_with}
 use Rattle.roster_answer.specs.Words.{found_line, refused_line}
 
 -- what was found in a text that was read; of one that was refused, its number and its line
-abbrev pub told : ℕ → List ℕ → Found → List ℕ
+abbrev pub told : ℕ → List ℕ → Option ℕ → List ℕ
 told zero values found = found_line found
 told (suc k) values found = refused_line (suc k) (get_or values 0 0)
 

@@ -1,10 +1,8 @@
 -- The words that a fitter is answered with, as bytes.
-use Rattle.std.specs.Prelude.{ℕ, ◌+◌, ◌/◌, ◌%◌, List, [], ◌∷◌, ◌++◌, eqb, ltb}
+use Rattle.std.specs.Prelude.{ℕ, ◌+◌, ◌/◌, ◌%◌, Option, Some, None, List, [], ◌∷◌, ◌++◌, eqb, ltb}
 use Prim.Native.String.{String}
 use Rattle.base.specs.Choice.{choose}
 use Rattle.serials.specs.Bytes.{bytes}
-use Rattle.serials.specs.declared.Found.{Found}
-use Rattle.serials.specs.declared.Found.TheVariants.{Slot, Nowhere}
 
 -- the last digit of a number
 abbrev pub digit : ℕ → ℕ
@@ -27,9 +25,9 @@ reason number =
     "more than 257 lines")))
 
 -- slots count from 0
-abbrev pub found_line : Found → List ℕ
-found_line (Slot k) = bytes "slot " ++ (decimal k ++ bytes "\n")
-found_line Nowhere = bytes "none\n"
+abbrev pub found_line : Option ℕ → List ℕ
+found_line (Some k) = bytes "slot " ++ (decimal k ++ bytes "\n")
+found_line None = bytes "none\n"
 
 -- lines count from 1
 abbrev pub refused_line : ℕ → ℕ → List ℕ

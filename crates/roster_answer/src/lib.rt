@@ -7,8 +7,7 @@ ghost use Rattle.roster_answer.specs.Words.{digit, decimal, found_line, refused_
 ghost use Rattle.roster_answer.specs.Answer.{answer_text, Begins};
 
 use lines::{Fault, MOST};
-use roster::Reading;
-use serials::Found;
+use serials::Serials;
 
 // The longest answer.
 pub const ANSWER: usize = 73;
@@ -19,18 +18,24 @@ pub fn answer(text: &[u8], asked: &[u8], out: &mut [u8; ANSWER]) -> usize
 {
     let mut ends = [0usize; MOST];
     match roster::read(text, &mut ends) {
-        Reading::Slots(slots) => tell_found(serials::find(text, &ends[..slots], asked), out),
-        Reading::Refused(fault, line) => tell_refused(fault, line, out),
+        Ok(slots) => {
+            let serials = Serials {
+                chars: text,
+                ends: &ends[..slots],
+            };
+            tell_found(serials.find(asked), out)
+        }
+        Err(faulty) => tell_refused(faulty.fault, faulty.line, out),
     }
 }
 
-fn tell_found(found: Found, out: &mut [u8]) -> usize
+fn tell_found(found: Option<usize>, out: &mut [u8]) -> usize
     requires { 73 ≤ length out.old }
     ensures { Begins (found_line found) out.old result out.new }
 {
     match found {
-        Found::Slot(slot) => tell(b"slot ", slot, b"\n", out),
-        Found::Nowhere => put(b"none\n", out),
+        Some(slot) => tell(b"slot ", slot, b"\n", out),
+        None => put(b"none\n", out),
     }
 }
 
@@ -93,6 +98,7 @@ fn put(words: &[u8], out: &mut [u8]) -> usize
     words.len()
 }
 
+// By hand, as all words here: `write!` promises its bytes only where it succeeds, and nowhere that it does.
 #[tactic(auto, unfolding(crate::specs::Words::decimal))]
 fn put_decimal(n: usize, out: &mut [u8]) -> usize
     requires { 3 ≤ length out.old }

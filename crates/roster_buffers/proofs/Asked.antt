@@ -9,7 +9,7 @@ use native.Mathlib.Decide.{ℕ_discrete}
 use lib.ListN.{length, take, length-take}
 use lib.Seq.{take_all}
 use Rattle.base.proofs.Choice.{below_or_not}
-use Rattle.serials.specs.declared.Found.TheVariants.{Nowhere}
+use Rattle.std.specs.Prelude.{None}
 use Rattle.serials.specs.Serials.{serials}
 use Rattle.serials.specs.LookUp.{look_up}
 use Rattle.roster.specs.Text.{line_ends}
@@ -20,7 +20,7 @@ use Rattle.roster_answer.specs.Answer.{told, answer_text}
 use Rattle.roster_buffers.specs.Kept.{asked_size}
 use Rattle.roster_answer.proofs.Told.{told_refused}
 
-nowhere : (text asked : List ℕ) → (read_answer text).number ≡ 0 → 20 < length asked → look_up (serials text (line_ends text)) asked ≡ Nowhere
+nowhere : (text asked : List ℕ) → (read_answer text).number ≡ 0 → 20 < length asked → look_up (serials text (line_ends text)) asked ≡ None
 nowhere text asked e h = long_nowhere (accepted_roster text e) asked h
 
 pub asked_enough : (text asked : List ℕ) → answer_text text asked ≡ answer_text text (take asked_size asked)

@@ -17,40 +17,42 @@ pub const HELD: usize = KEPT + 1;
 // One byte more than a serial has.
 pub const ASKED: usize = 21;
 
-// Takes in more of a text. The first `count` bytes are held of it, and then as many as is returned; where those fill the
-// array, no byte that comes later is taken in.
-pub fn take_in(held: &mut [u8; HELD], count: usize, more: &[u8]) -> usize
-    ensures { Begins (kept (take count held.old ++ more.now)) held.old result held.new }
-{
-    take_all(held, count, more)
+// An array of which the first `count` bytes are filled, or all where it has fewer.
+#[derive(Clone, Copy)]
+pub struct Filled<const N: usize> {
+    pub bytes: [u8; N],
+    pub count: usize,
 }
 
-fn take_all(held: &mut [u8], count: usize, more: &[u8]) -> usize
-    requires { length held.old ≡ held_size }
-    ensures { Begins (kept (take count held.old ++ more.now)) held.old result held.new }
-{
-    let mut n = count_held(held, count);
-    let mut i = 0;
-    while i < more.len() {
-        let c = more[i];
-        if is_taken(n, c) {
-            held[n] = c;
-            n += 1;
-        }
-        i += 1;
+impl<const N: usize> Filled<N> {
+    pub fn part(&self) -> &[u8]
+        ensures { result.now ≡ take self.now.count self.now.bytes }
+    {
+        serials::part(&self.bytes, 0, self.count)
     }
-    n
+}
+
+// Takes in more of the text that is held. Where what is kept of it fills the array, no byte that comes later is taken in.
+pub fn take_in(held: &mut Filled<HELD>, more: &[u8])
+    ensures { Begins (kept (take held.old.count held.old.bytes ++ more.now)) held.old.bytes held.new.count held.new.bytes }
+{
+    held.count = count_held(held);
+    for c in more {
+        if is_taken(held.count, *c) {
+            held.bytes[held.count] = *c;
+            held.count += 1;
+        }
+    }
 }
 
 // How many of the first `count` bytes are kept.
-fn count_held(held: &[u8], count: usize) -> usize
-    requires { length held.now ≡ held_size }
-    ensures { Holds held.now result (take count held.now) }
+fn count_held(held: &Filled<HELD>) -> usize
+    ensures { Holds held.now.bytes result (take held.now.count held.now.bytes) }
 {
-    if count <= KEPT {
-        return count;
+    if held.count <= KEPT {
+        return held.count;
     }
-    if is_taken(KEPT, held[KEPT]) {
+    if is_taken(KEPT, held.bytes[KEPT]) {
         return HELD;
     }
     KEPT
@@ -60,28 +62,12 @@ fn count_held(held: &[u8], count: usize) -> usize
 fn is_taken(n: usize, c: u8) -> bool
     ensures { result ≡ is_taken kept_size n c }
 {
-    if n < KEPT {
-        return true;
-    }
-    if n != KEPT {
-        return false;
-    }
-    !lines::is_character(c)
+    n < KEPT || (n == KEPT && !lines::is_character(c))
 }
 
 // Answers from the bytes that are held of a text and of the asked serial.
-pub fn answer_held(
-    held: &[u8; HELD],
-    count: usize,
-    asked: &[u8; ASKED],
-    length: usize,
-    out: &mut [u8; ANSWER],
-) -> usize
-    ensures { AnswerHeldCall held.now count asked.now length out.old result out.new }
+pub fn answer_held(held: &Filled<HELD>, asked: &Filled<ASKED>, out: &mut [u8; ANSWER]) -> usize
+    ensures { AnswerHeldCall held.now.bytes held.now.count asked.now.bytes asked.now.count out.old result out.new }
 {
-    roster_answer::answer(
-        serials::part(held, 0, count),
-        serials::part(asked, 0, length),
-        out,
-    )
+    roster_answer::answer(held.part(), asked.part(), out)
 }

@@ -1,10 +1,8 @@
 -- What the calls answer in numbers alone, and what they leave behind: the answer's number is the result r, and its value is in a place of its own.
-use Rattle.std.specs.Prelude.{ℕ, ◌≡◌, Bool, List, [], ◌∷◌, length}
+use Rattle.std.specs.Prelude.{ℕ, ◌≡◌, Bool, Option, Some, None, is_some, List, [], ◌∷◌, length}
 use Rattle.base.specs.Refusal.{Answer, unless_refused}
-use Rattle.serials.specs.declared.Found.{Found}
-use Rattle.serials.specs.declared.Found.TheVariants.{Slot, Nowhere}
 use Rattle.serials.specs.Serials.{serials}
-use Rattle.serials.specs.LookUp.{look_up, is_found}
+use Rattle.serials.specs.LookUp.{look_up}
 use Rattle.roster.specs.Text.{roster_text, line_ends}
 use Rattle.roster.specs.Calls.{read_answer, write_answer, begun_with}
 
@@ -12,9 +10,9 @@ abbrev pub told : ℕ → ℕ → Answer
 told r value = record { number = r; values = value ∷ [] }
 
 -- the place of the slot: as it was where none is found
-abbrev pub slot_or : ℕ → Found → ℕ
-slot_or before (Slot k) = k
-slot_or before Nowhere = before
+abbrev pub slot_or : ℕ → Option ℕ → ℕ
+slot_or before (Some k) = k
+slot_or before None = before
 
 -- ---- the contracts: the result, the value and the final buffer, each equal to its definition
 pub record ReadNumbers (text before : List ℕ) (r value : ℕ) (after : List ℕ) : Type 0 where
@@ -26,5 +24,5 @@ pub record WriteNumbers (chars ends before : List ℕ) (r value : ℕ) (after : 
   pub output : after ≡ unless_refused (write_answer (serials chars ends) (length before)).number (begun_with (roster_text (serials chars ends)) before) before
 
 pub record LookUpNumbers (chars ends asked : List ℕ) (before : ℕ) (r : Bool) (slot : ℕ) : Type 0 where
-  pub found : r ≡ is_found (look_up (serials chars ends) asked)
+  pub found : r ≡ is_some (look_up (serials chars ends) asked)
   pub place : slot ≡ slot_or before (look_up (serials chars ends) asked)

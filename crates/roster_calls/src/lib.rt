@@ -2,26 +2,24 @@
 // value that comes with it is put in a place of its own. No premise is put on the caller.
 #![tactic(auto)]
 
-ghost use Rattle.std.specs.Prelude.{◌≡◌};
-ghost use Rattle.lines.specs.Faults.{number_of};
 ghost use Rattle.roster_calls.specs.Numbers.{ReadNumbers, WriteNumbers, LookUpNumbers};
 
-use lines::{Fault, MOST};
-use roster::{Reading, Written};
-use serials::Found;
+use lines::MOST;
+use roster::{FaultyLine, WriteError};
+use serials::Serials;
 
 #[unsafe(no_mangle)]
 pub extern "C" fn roster_read(text: &[u8], ends: &mut [usize; MOST], value: &mut usize) -> u8
     ensures { ReadNumbers text.now ends.old result value.new ends.new }
 {
     match roster::read(text, ends) {
-        Reading::Slots(slots) => {
+        Ok(slots) => {
             *value = slots;
             0
         }
-        Reading::Refused(fault, line) => {
+        Err(FaultyLine { fault, line }) => {
             *value = line;
-            number(fault)
+            u8::from(fault)
         }
     }
 }
@@ -35,16 +33,16 @@ pub extern "C" fn roster_write(
 ) -> u8
     ensures { WriteNumbers chars.now ends.now out.old result value.new out.new }
 {
-    match roster::write(chars, ends, out) {
-        Written::Length(length) => {
+    match roster::write(&Serials { chars, ends }, out) {
+        Ok(length) => {
             *value = length;
             0
         }
-        Written::Refused(fault, line) => {
+        Err(WriteError::Faulty(FaultyLine { fault, line })) => {
             *value = line;
-            number(fault)
+            u8::from(fault)
         }
-        Written::NoRoom => {
+        Err(WriteError::NoRoom) => {
             *value = 0;
             35
         }
@@ -61,23 +59,11 @@ pub extern "C" fn roster_look_up(
 ) -> bool
     ensures { LookUpNumbers chars.now ends.now asked.now slot.old result slot.new }
 {
-    match serials::find(chars, ends, asked) {
-        Found::Slot(k) => {
+    match (Serials { chars, ends }).find(asked) {
+        Some(k) => {
             *slot = k;
             true
         }
-        Found::Nowhere => false,
-    }
-}
-
-fn number(fault: Fault) -> u8
-    ensures { result ≡ number_of fault }
-{
-    match fault {
-        Fault::BadCharacter => 30,
-        Fault::BadLength => 31,
-        Fault::NoLineFeed => 32,
-        Fault::Repeated => 33,
-        Fault::PastLast => 34,
+        None => false,
     }
 }

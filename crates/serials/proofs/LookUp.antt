@@ -7,16 +7,16 @@ use mathlib.Core.List.{List, [], ◌∷◌}
 use Prim.Native.Nat.{ℕ, zero, suc, ◌<◌, suc-le-suc}
 use native.Mathlib.Nat.{not-suc-le-zero, le_of_suc-le-suc, zero-lt-suc}
 use native.Mathlib.Omega.{arith}
-use borrow.Author.Tests.{eq-eqb, ne_eqb, eqb-true}
+use borrow.Author.Tests.{eq-eqb, eqb-true}
 use lib.Dec.{eqb}
+use lib.Pointwise.{pointwise}
 use lib.ListN.{length, get_or, drop}
 use lib.Seq.{drop-cons}
-use Rattle.base.specs.Choice.{choose}
+use Rattle.base.specs.Choice.{choose, both}
 use Rattle.base.proofs.Choice.{both_true}
-use Rattle.serials.specs.declared.Found.{Found}
-use Rattle.serials.specs.declared.Found.TheVariants.{Slot, Nowhere}
+use Rattle.std.specs.Prelude.{Option, Some, None, is_some}
 use Rattle.serials.specs.Serials.{serials}
-use Rattle.serials.specs.LookUp.{alike, look_up_from, look_up, is_found}
+use Rattle.serials.specs.LookUp.{alike, look_up_from, look_up}
 use Rattle.serials.specs.Lowest.{Lowest, Tells}
 
 -- ---- two serials
@@ -35,43 +35,36 @@ alike_self (a ∷ s) = rw (eq-eqb a a refl) (alike_self s)
 pub same_alike : {s t : List ℕ} → s ≡ t → alike s t ≡ true
 same_alike {s} e = ap (alike s) (sym e) ∙ alike_self s
 
-pub other_alike : (s t : List ℕ) → s ≢ t → alike s t ≡ false
-other_alike s t n = go (alike s t) refl
-  where
-    go : (b : Bool) → alike s t ≡ b → b ≡ false
-    go true e = absurd (n (alike_same s t e))
-    go false e = refl
+-- what `==` answers of two slices
+pub pointwise_alike : (s t : List ℕ) → pointwise eqb s t ≡ alike s t
+pointwise_alike [] [] = refl
+pointwise_alike [] (b ∷ t) = refl
+pointwise_alike (a ∷ s) [] = refl
+pointwise_alike (a ∷ s) (b ∷ t) = ap (both (eqb a b)) (pointwise_alike s t)
 
--- ---- the comparison goes on while the bytes are the same, and the search while the serials differ
-module _ (s t : List ℕ) (i : ℕ) (hs : i < length s) (ht : i < length t) where
-  pub bytes_same : get_or s i 0 ≡ get_or t i 0 → alike (drop i s) (drop i t) ≡ alike (drop (suc i) s) (drop (suc i) t)
-  bytes_same e = rw (drop-cons s i 0 hs, drop-cons t i 0 ht, eq-eqb (get_or s i 0) (get_or t i 0) e)
-
-  pub bytes_differ : get_or s i 0 ≢ get_or t i 0 → alike (drop i s) (drop i t) ≡ false
-  bytes_differ n = rw (drop-cons s i 0 hs, drop-cons t i 0 ht, ne_eqb (get_or s i 0) (get_or t i 0) n)
-
+-- ---- the search goes on while the serials differ
 module _ (k : ℕ) (ss : List (List ℕ)) (slot : ℕ) (asked : List ℕ) (h : slot < length ss) where
   pub search_on : alike (get_or ss slot []) asked ≡ false → look_up_from k (drop slot ss) asked ≡ look_up_from (suc k) (drop (suc slot) ss) asked
   unfolding look_up_from
   search_on e = rw (drop-cons ss slot [] h, e)
 
-  pub search_ends : alike (get_or ss slot []) asked ≡ true → look_up_from k (drop slot ss) asked ≡ Slot k
+  pub search_ends : alike (get_or ss slot []) asked ≡ true → look_up_from k (drop slot ss) asked ≡ Some k
   unfolding look_up_from
   search_ends e = rw (drop-cons ss slot [] h, e)
 
 -- ---- what is found
-abbrev later : Found → Found
-later (Slot k) = Slot (suc k)
-later Nowhere = Nowhere
+abbrev later : Option ℕ → Option ℕ
+later (Some k) = Some (suc k)
+later None = None
 
-later_choose : (b : Bool) (f g : Found) → choose b (later f) (later g) ≡ later (choose b f g)
+later_choose : (b : Bool) (f g : Option ℕ) → choose b (later f) (later g) ≡ later (choose b f g)
 later_choose true f g = refl
 later_choose false f g = refl
 
 shifted : (k : ℕ) (ss : List (List ℕ)) (asked : List ℕ) → look_up_from (suc k) ss asked ≡ later (look_up_from k ss asked)
 unfolding look_up_from
 shifted k [] asked = refl
-shifted k (s ∷ ss) asked = rw (shifted (suc k) ss asked) (later_choose (alike s asked) (Slot k) (look_up_from (suc k) ss asked))
+shifted k (s ∷ ss) asked = rw (shifted (suc k) ss asked) (later_choose (alike s asked) (Some k) (look_up_from (suc k) ss asked))
 
 -- a slot more in front
 module _ (s : List ℕ) (ss : List (List ℕ)) (asked : List ℕ) where
@@ -79,49 +72,49 @@ module _ (s : List ℕ) (ss : List (List ℕ)) (asked : List ℕ) where
   none_before n k ns zero h = n
   none_before n k ns (suc j) h = ns j (le_of_suc-le-suc h)
 
-  tells_later : s ≢ asked → (f : Found) → Tells ss asked f → Tells (s ∷ ss) asked (later f)
-  tells_later n (Slot k) t = record { there = suc-le-suc t.there; same = t.same; before = none_before n k t.before }
-  tells_later n Nowhere t = none_before n (length ss) t
+  tells_later : s ≢ asked → (f : Option ℕ) → Tells ss asked f → Tells (s ∷ ss) asked (later f)
+  tells_later n (Some k) t = record { there = suc-le-suc t.there; same = t.same; before = none_before n k t.before }
+  tells_later n None t = none_before n (length ss) t
 
 pub look_up_tells : (ss : List (List ℕ)) (asked : List ℕ) → Tells ss asked (look_up ss asked)
 unfolding look_up_from
 look_up_tells [] asked = λ j h. absurd (not-suc-le-zero h)
 look_up_tells (s ∷ ss) asked = rw (shifted 0 ss asked) (go (alike s asked) refl (look_up_tells ss asked))
   where
-    go : (b : Bool) → alike s asked ≡ b → Tells ss asked (look_up ss asked) → Tells (s ∷ ss) asked (choose b (Slot 0) (later (look_up ss asked)))
+    go : (b : Bool) → alike s asked ≡ b → Tells ss asked (look_up ss asked) → Tells (s ∷ ss) asked (choose b (Some 0) (later (look_up ss asked)))
     go true e t = record { there = zero-lt-suc (length ss); same = alike_same s asked e; before = λ j h. absurd (not-suc-le-zero h) }
     go false e t = tells_later s ss asked (λ same. true≢false (sym (same_alike same) ∙ e)) (look_up ss asked) t
 
 -- the same of a call of `find`
-pub find_tells : (chars ends asked : List ℕ) (r : Found) → r ≡ look_up (serials chars ends) asked → Tells (serials chars ends) asked r
+pub find_tells : (chars ends asked : List ℕ) (r : Option ℕ) → r ≡ look_up (serials chars ends) asked → Tells (serials chars ends) asked r
 find_tells chars ends asked r e = rw e (look_up_tells (serials chars ends) asked)
 
 -- ---- what stands lowest is found, and what no slot has is not
 module _ (ss : List (List ℕ)) (asked : List ℕ) where
-  pub lowest_found : (k : ℕ) → Lowest ss asked k → look_up ss asked ≡ Slot k
+  pub lowest_found : (k : ℕ) → Lowest ss asked k → look_up ss asked ≡ Some k
   lowest_found k low = go (look_up ss asked) (look_up_tells ss asked)
     where
-      go : (f : Found) → Tells ss asked f → f ≡ Slot k
-      go (Slot j) t =
+      go : (f : Option ℕ) → Tells ss asked f → f ≡ Some k
+      go (Some j) t =
           let low_j : ¬ (j < k) = λ h. low.before j h t.same in
           let low_k : ¬ (k < j) = λ h. t.before k h low.same in
-          ap Slot (omega arith)
-      go Nowhere t = absurd (t k low.there low.same)
+          ap Some (omega arith)
+      go None t = absurd (t k low.there low.same)
 
-  pub held_nowhere : ((j : ℕ) → j < length ss → get_or ss j [] ≢ asked) → look_up ss asked ≡ Nowhere
+  pub held_nowhere : ((j : ℕ) → j < length ss → get_or ss j [] ≢ asked) → look_up ss asked ≡ None
   held_nowhere none = go (look_up ss asked) (look_up_tells ss asked)
     where
-      go : (f : Found) → Tells ss asked f → f ≡ Nowhere
-      go (Slot j) t = absurd (none j t.there t.same)
-      go Nowhere t = refl
+      go : (f : Option ℕ) → Tells ss asked f → f ≡ None
+      go (Some j) t = absurd (none j t.there t.same)
+      go None t = refl
 
   -- a serial is found only among those of its length
-  pub other_length : ((j : ℕ) → j < length ss → length (get_or ss j []) ≢ length asked) → look_up ss asked ≡ Nowhere
+  pub other_length : ((j : ℕ) → j < length ss → length (get_or ss j []) ≢ length asked) → look_up ss asked ≡ None
   other_length none = held_nowhere (λ j h e. none j h (ap length e))
 
-  pub not_found : is_found (look_up ss asked) ≡ false → (j : ℕ) → j < length ss → get_or ss j [] ≢ asked
+  pub not_found : is_some (look_up ss asked) ≡ false → (j : ℕ) → j < length ss → get_or ss j [] ≢ asked
   not_found e = go (look_up ss asked) e (look_up_tells ss asked)
     where
-      go : (f : Found) → is_found f ≡ false → Tells ss asked f → (j : ℕ) → j < length ss → get_or ss j [] ≢ asked
-      go (Slot k) e t = absurd (true≢false e)
-      go Nowhere e t = t
+      go : (f : Option ℕ) → is_some f ≡ false → Tells ss asked f → (j : ℕ) → j < length ss → get_or ss j [] ≢ asked
+      go (Some k) e t = absurd (true≢false e)
+      go None e t = t

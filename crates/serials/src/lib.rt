@@ -1,81 +1,74 @@
-// The serials of a roster, and the look-up of one. They are lent as bytes and the place where each serial ends:
-// the next begins one byte after it. Any bytes with any places are some serials.
+// The serials of a roster, and the look-up of one.
 #![tactic(auto)]
 
-ghost use Rattle.std.specs.Prelude.{◌≡◌, ◌-◌, min, take, drop, get_or, []};
+ghost use Rattle.std.specs.Prelude.{ℕ, ◌≡◌, ◌-◌, List, [], length, take, drop, get_or};
 ghost use Rattle.serials.specs.Serials.{serials};
-ghost use Rattle.serials.specs.LookUp.{alike, look_up, is_found};
+ghost use Rattle.serials.specs.LookUp.{look_up};
 
-#[derive(Clone, Copy)]
-pub enum Found {
-    Slot(usize),
-    Nowhere,
+use std::marker::Model;
+
+// Serials as they are lent: bytes and the place where each serial ends. The next begins one byte after it. Any bytes
+// with any places are some serials. Contracts see the list of the serials.
+#[derive(Drop)]
+pub struct Serials<'a> {
+    pub chars: &'a [u8],
+    pub ends: &'a [usize],
 }
 
-pub fn is_found(f: Found) -> bool
-    ensures { result ≡ is_found f }
-{
-    match f {
-        Found::Slot(_) => true,
-        Found::Nowhere => false,
+impl<'a> Model for Serials<'a> {
+    ghost Value = { List (List ℕ) };
+
+    ghost view = { λ s. serials s.chars.now s.ends.now };
+}
+
+impl<'a> Serials<'a> {
+    pub fn len(&self) -> usize
+        ensures { result ≡ length self.now }
+    {
+        self.ends.len()
     }
-}
 
-// The lowest slot whose serial has the asked length and the same byte at every place.
-pub fn find(chars: &[u8], ends: &[usize], asked: &[u8]) -> Found
-    ensures { result ≡ look_up (serials chars.now ends.now) asked.now }
-{
-    let mut slot = 0;
-    while slot < ends.len() {
-        if is_same(serial(chars, ends, slot), asked) {
-            return Found::Slot(slot);
+    // The lowest slot whose serial has the asked length and the same byte at every place.
+    pub fn find(&self, asked: &[u8]) -> Option<usize>
+        ensures { result ≡ look_up self.now asked.now }
+    {
+        for slot in 0..self.len() {
+            if self.get(slot) == asked {
+                return Some(slot);
+            }
         }
-        slot += 1;
+        None
     }
-    Found::Nowhere
-}
 
-fn is_same(a: &[u8], b: &[u8]) -> bool
-    ensures { result ≡ alike a.now b.now }
-{
-    if a.len() != b.len() {
-        return false;
-    }
-    let mut i = 0;
-    while i < a.len() {
-        if a[i] != b[i] {
-            return false;
+    // The serials of the first slots, so many as are asked for or all.
+    pub fn first(&self, count: usize) -> Self
+        ensures { result ≡ take count self.now }
+    {
+        Serials {
+            chars: self.chars,
+            ends: &self.ends[..count.min(self.ends.len())],
         }
-        i += 1;
     }
-    true
-}
 
-// The serial of a slot; past the last slot, none.
-pub fn serial<'a>(chars: &'a [u8], ends: &[usize], slot: usize) -> &'a [u8]
-    ensures { result.now ≡ get_or (serials chars.now ends.now) slot [] }
-{
-    if ends.len() <= slot {
-        return part(chars, 0, 0);
+    // The serial of a slot; past the last slot, none.
+    pub fn get(&self, slot: usize) -> &'a [u8]
+        ensures { result.now ≡ get_or self.now slot [] }
+    {
+        if self.ends.len() <= slot {
+            return &[];
+        }
+        if slot == 0 {
+            return part(self.chars, 0, self.ends[slot]);
+        }
+        let before = self.ends[slot - 1].min(self.chars.len());
+        part(self.chars, before + 1, self.ends[slot])
     }
-    if slot == 0 {
-        return part(chars, 0, ends[slot]);
-    }
-    let before = least(ends[slot - 1], chars.len());
-    part(chars, before + 1, ends[slot])
 }
 
 // The bytes from one place to another, as far as there are such.
 pub fn part(chars: &[u8], start: usize, end: usize) -> &[u8]
     ensures { result.now ≡ take (end - start) (drop start chars.now) }
 {
-    let to = least(end, chars.len());
-    let from = least(start, to);
-    &chars[from..to]
-}
-
-fn least(a: usize, b: usize) -> usize
-    ensures { result ≡ min a b }
-{
-    if a < b { a } else { b }
+    let to = end.min(chars.len());
+    &chars[start.min(to)..to]
 }

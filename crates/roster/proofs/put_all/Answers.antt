@@ -7,8 +7,6 @@ use borrow.Author.Rules.{rules}
 use borrow.Rule.Slice.PartMut.{put_mid}
 use lib.ListN.{length, get_or, drop}
 use Rattle.base.proofs.Tails.{put_tail}
-use Rattle.serials.specs.Serials.{serials}
-use Rattle.serials.proofs.Laws.{length_serials}
 use Rattle.roster.proofs.PutTo.{put_none, put_room, feed_room, put_more, put_all}
 use Rattle.roster.proofs.put_all.Goals as goal
 
@@ -20,40 +18,37 @@ put_part out serial s at e =
     rw (size, e) (sym (put_tail at out (serial ++ drop (length serial) (drop at out))))
 
 pub loop-slot-init : goal.loop-slot-init
-loop-slot-init c = (omega arith, put_none _ _)
+loop-slot-init c = put_none _ _
 
 -- the next line has room
 pub slice_bounds-copy_from_slice-end : goal.slice_bounds-copy_from_slice-end
 slice_bounds-copy_from_slice-end c =
-    let ss = serials c.args.chars.now c.args.ends.now in
+    let ss = c.args.lent.now in
     let l = c.loop-slot in
-    let there : l.slot < length ss = omega (arith, length_serials c.args.chars.now 0 c.args.ends.now) in
-    let room : l.at + length (get_or ss l.slot []) < length c.args.out.now = put_room ss c.args.out.now l.out l.at l.slot l.invariant.1 c.requires there in
-    let size = ap length c.serial-serial.ensures in
+    let there : l.slot < length ss = omega (arith, c.len-slot-end.ensures) in
+    let room : l.at + length (get_or ss l.slot []) < length c.args.out.now = put_room ss c.args.out.now l.out l.at l.slot l.invariant c.requires there in
+    let size = ap length c.get-serial.ensures in
     search rules
 
 pub bounds-out-at : goal.bounds-out-at
 bounds-out-at c =
-    let ss = serials c.args.chars.now c.args.ends.now in
+    let ss = c.args.lent.now in
     let l = c.loop-slot in
-    let there : l.slot < length ss = omega (arith, length_serials c.args.chars.now 0 c.args.ends.now) in
-    let e = c.serial-serial.ensures in
+    let there : l.slot < length ss = omega (arith, c.len-slot-end.ensures) in
+    let e = c.get-serial.ensures in
     rw (c.copy_from_slice.ensures.after, put_part l.out _ _ l.at e)
-    (feed_room ss c.args.out.now l.out l.at l.slot l.invariant.1 c.requires there refl (ap length e))
+    (feed_room ss c.args.out.now l.out l.at l.slot l.invariant c.requires there refl (ap length e))
 
 pub loop-slot-preserved : goal.loop-slot-preserved
 loop-slot-preserved c =
-    let ss = serials c.args.chars.now c.args.ends.now in
+    let ss = c.args.lent.now in
     let l = c.loop-slot in
-    let there : l.slot < length ss = omega (arith, length_serials c.args.chars.now 0 c.args.ends.now) in
-    let e = c.serial-serial.ensures in (
-      omega arith,
-      rw (c.copy_from_slice.ensures.after, put_part l.out _ _ l.at e)
-          (put_more ss c.args.out.now l.out l.at l.slot l.invariant.1 c.requires there refl (ap length e)),
-    )
+    let there : l.slot < length ss = omega (arith, c.len-slot-end.ensures) in
+    let e = c.get-serial.ensures in
+    rw (c.copy_from_slice.ensures.after, put_part l.out _ _ l.at e)
+    (put_more ss c.args.out.now l.out l.at l.slot l.invariant c.requires there refl (ap length e))
 
 pub returns : goal.returns
 returns c =
-    let a = c.args in
     let l = c.loop-slot in
-    put_all (serials a.chars.now a.ends.now) a.out.now l.out l.at l.slot l.invariant.1 (omega (arith, length_serials a.chars.now 0 a.ends.now))
+    put_all c.args.lent.now c.args.out.now l.out l.at l.slot l.invariant (omega (arith, c.len-slot-end.ensures))

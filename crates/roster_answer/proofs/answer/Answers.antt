@@ -5,13 +5,13 @@ use Rattle.roster_answer.proofs.Answered.{slots_within, slots_found, fault_told}
 use Rattle.roster_answer.proofs.answer.Goals as goal
 
 pub slice_bounds-ends-end : goal.slice_bounds-ends-end
-slice_bounds-ends-end c = slots_within c.read.ensures c.in-Slots.slots c.in-Slots.is
+slice_bounds-ends-end c = slots_within c.read.ensures c.in-Ok.slots c.in-Ok.is
 
-pub slice_bounds-find-end : goal.slice_bounds-find-end
-slice_bounds-find-end c = sym (length-take-le c.in-Slots.slots c.read.new.ends (slots_within c.read.ensures c.in-Slots.slots c.in-Slots.is))
+pub slice_bounds-serials-end : goal.slice_bounds-serials-end
+slice_bounds-serials-end c = sym (length-take-le c.in-Ok.slots c.read.new.ends (slots_within c.read.ensures c.in-Ok.slots c.in-Ok.is))
 
-pub returns-in-Slots : goal.returns-in-Slots
-returns-in-Slots c = rw (slots_found c.read.ensures c.in-Slots.slots c.in-Slots.is c.args.asked.now, ← c.find.ensures) c.tell_found.ensures
+pub returns-in-Ok : goal.returns-in-Ok
+returns-in-Ok c = rw (slots_found c.read.ensures c.in-Ok.slots c.in-Ok.is c.args.asked.now, ← c.find.ensures) c.tell_found.ensures
 
-pub returns-in-Refused : goal.returns-in-Refused
-returns-in-Refused c = rw (fault_told c.read.ensures c.in-Refused.fault c.in-Refused.line c.in-Refused.is c.args.asked.now) c.tell_refused.ensures
+pub returns-in-Err : goal.returns-in-Err
+returns-in-Err c = rw (fault_told c.read.ensures c.in-Err.faulty c.in-Err.is c.args.asked.now) c.tell_refused.ensures
