@@ -3,18 +3,16 @@
 use mathlib.Core.Path.{◌≡◌, ap, ap₂}
 use Prim.Native.Nat.{ℕ, ◌+◌, ◌<◌}
 use Rattle.matrix.specs.Matrix.{weight}
-use Rattle.findings.specs.Findings.{Code, X}
-use Rattle.findings.specs.declared.Finding.{Finding}
-use Rattle.bitmatrix.specs.Judge.{ones, minimal, refusal, refused_or, judged}
-use Rattle.bitmatrix.specs.declared.Judgement.TheVariants.{Judged}
+use Rattle.findings.specs.Findings.{Code, X, Finding}
+use Rattle.bitmatrix.specs.Judge.{ones, minimal, refusal, refused_or, judgement, judged}
 use Rattle.matrix.proofs.Fold.{fold_ext}
 use Rattle.findings.proofs.Places.{finding_places}
 
 module _ (code code' : Code) (count : ℕ) (agree : (i : ℕ) → i < count → X code i ≡ X code' i) where
-  ones_places : ones code count ≡ ones code' count
+  pub ones_places : ones code count ≡ ones code' count
   unfolding ones
   ones_places = fold_ext ◌+◌ 0 count _ _ (λ i l. ap weight (agree i l))
 
   pub judged_places : judged code count ≡ judged code' count
   judged_places =
-      ap₂ (λ (g : Finding) (n : ℕ). refused_or (refusal count) (Judged g n (minimal g n count))) (finding_places code code' count agree) ones_places
+      ap₂ (λ (g : Finding) (n : ℕ). refused_or (refusal count) (judgement g n (minimal g n count))) (finding_places code code' count agree) ones_places

@@ -2,50 +2,53 @@
 // how dense its matrices are.
 #![tactic(auto)]
 
-ghost use Rattle.std.specs.Prelude.{◌≡◌, ◌≤◌};
-ghost use Rattle.bitmatrix.specs.Judge.{ones, Judges};
+ghost use Rattle.std.specs.Prelude.{◌≡◌, ◌≤◌, length};
+ghost use Rattle.bitmatrix.specs.Judge.{number_of, ones, Judges};
 
-use findings::Finding;
+use findings::{Code, Flaw};
+use matrix::Matrix;
 
-// Refused with its number, or result 0 with the finding, the ones of the matrices that count, and whether a fit code of k has just 9k - 1.
+// Why a code is not judged: it has no matrix, or more than eight. The number is the paper's.
 #[derive(Clone, Copy)]
-pub enum Judgement {
-    Refused(u8),
-    Judged {
-        finding: Finding,
-        ones: usize,
-        minimal: bool,
-    },
+pub enum Refusal {
+    Count = 8,
 }
 
-fn ones_of(code: [[u8; 8]; 8], count: usize) -> usize
-    requires { count ≤ 8 }
-    ensures { result ≡ ones code count }
-{
-    let mut n = 0;
-    for i in 0..count {
-        let m = code[i];
-        n += matrix::weight_of(m);
+impl From<Refusal> for u8 {
+    ghost from_gives = { λ refusal number. number ≡ number_of refusal };
+
+    fn from(refusal: Refusal) -> u8 {
+        refusal as u8
     }
-    n
+}
+
+// What is wrong with a code, the ones of its matrices, and whether it is fit and has just 9k - 1 of them, for k matrices.
+#[derive(Clone, Copy)]
+pub struct Judgement {
+    pub finding: Option<Flaw>,
+    pub ones: usize,
+    pub minimal: bool,
+}
+
+fn ones_of(code: &[Matrix]) -> usize
+    requires { length code.now ≤ 8 }
+    ensures { result ≡ ones code.now (length code.now) }
+{
+    code.iter().map(|m| matrix::weight_of(*m)).sum()
 }
 
 // Judges the matrices at the first count places; what stands at the others changes nothing.
-pub fn judge(code: [[u8; 8]; 8], count: usize) -> Judgement
+pub fn judge(code: Code, count: usize) -> Result<Judgement, Refusal>
     ensures { Judges code count result }
 {
-    if count == 0 {
-        return Judgement::Refused(8);
+    if count == 0 || 8 < count {
+        return Err(Refusal::Count);
     }
-    if 8 < count {
-        return Judgement::Refused(8);
-    }
-    let found = findings::find(code, count);
-    let n = ones_of(code, count);
-    let least = 9 * count - 1;
-    Judgement::Judged {
-        finding: found,
-        ones: n,
-        minimal: findings::is_fit(found) && n == least,
-    }
+    let finding = findings::find(code, count);
+    let ones = ones_of(&code[..count]);
+    Ok(Judgement {
+        finding,
+        ones,
+        minimal: finding.is_none() && ones == 9 * count - 1,
+    })
 }

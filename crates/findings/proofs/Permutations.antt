@@ -12,7 +12,7 @@ use Rattle.matrix.specs.Fold.{fold}
 use Rattle.matrix.specs.Matrix.{Matrix, bit, entry, component, apply, add}
 use Rattle.findings.specs.Findings.{Code, X, finding}
 use Rattle.findings.specs.Cone.{Permutation}
-use Rattle.findings.specs.declared.Finding.TheVariants.{Fit}
+use Rattle.std.specs.Prelude.{None}
 use Rattle.matrix.proofs.Fold.{fold_ext, none_fold}
 use Rattle.matrix.proofs.Invertible.{and_true}
 use Rattle.matrix.proofs.Linear.{apply_add}
@@ -36,7 +36,7 @@ sum_kills_ones a b p q =
     ∙ xor_self (apply b 255)
 
 pub permutations_unfit : (code : Code) (count : ℕ) → 1 < count → ((i : ℕ) → i < count → Permutation (X code i))
-    → finding code count ≡ Fit → ⊥
+    → finding code count ≡ None → ⊥
 permutations_unfit code count l p e =
     let never = ((fit_cone code count).0 e).sums 0 1 (omega arith) l (omega arith) 255 (omega arith) (sum_kills_ones _ _ (p 0 (omega arith)) (p 1 l)) in
     omega arith

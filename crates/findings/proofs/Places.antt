@@ -5,16 +5,18 @@ use mathlib.Core.Bool.{◌&&◌}
 use Prim.Native.Nat.{ℕ, ◌<◌}
 use lib.Dec.{ltb}
 use Rattle.matrix.specs.Matrix.{Matrix, add, singular}
-use Rattle.findings.specs.Findings.{Code, X, or_else, when, finding}
-use Rattle.findings.specs.declared.Finding.TheVariants.{Fit, Singular, Pair}
+use Rattle.findings.specs.Findings.{Code, X, when, finding}
+use Rattle.std.specs.Prelude.{None}
+use Rattle.std.specs.Option.{option_or}
+use Rattle.findings.specs.declared.Flaw.TheVariants.{Singular, Pair}
 use Rattle.matrix.proofs.Fold.{fold_ext}
 
 pub finding_places : (code code' : Code) (count : ℕ) → ((i : ℕ) → i < count → X code i ≡ X code' i) → finding code count ≡ finding code' count
 unfolding finding
 finding_places code code' count agree =
-    ap₂ or_else
-    (fold_ext or_else Fit count _ _ (λ i l. ap (λ (m : Matrix). when (singular m) (Singular i)) (agree i l)))
-    (fold_ext or_else Fit count _ _
+    ap₂ option_or
+    (fold_ext option_or None count _ _ (λ i l. ap (λ (m : Matrix). when (singular m) (Singular i)) (agree i l)))
+    (fold_ext option_or None count _ _
     (λ i li.
-    fold_ext or_else Fit count _ _
+    fold_ext option_or None count _ _
     (λ j lj. ap₂ (λ (m n : Matrix). when (ltb i j && singular (add m n)) (Pair i j)) (agree i li) (agree j lj))))

@@ -10,18 +10,18 @@ use Rattle.matrix.specs.Matrix.{bit, apply, add, Invertible}
 use Rattle.findings.specs.Findings.{Code, X, finding}
 use Rattle.findings.specs.Cone.{Cone}
 use Rattle.findings.specs.Rebuild.{Device, Word, P, Q, Known}
-use Rattle.findings.specs.declared.Finding.TheVariants.{Fit}
+use Rattle.std.specs.Prelude.{None}
 use Rattle.matrix.proofs.Bits.{bits_ext, bit_xor_lem, xor_swap}
 use Rattle.matrix.proofs.Linear.{apply_lt, apply_add, apply_sum}
 use Rattle.matrix.proofs.Onto.{Takes}
 use Rattle.matrix.proofs.Determined.{one_word, two_words, reaches}
 use Rattle.findings.proofs.Fit.{fit_cone}
 
-pub fit_one_word : (code : Code) (count : ℕ) → finding code count ≡ Fit → (i : ℕ) → i < count
+pub fit_one_word : (code : Code) (count : ℕ) → finding code count ≡ None → (i : ℕ) → i < count
     → (a a' : ℕ) → a < 256 → a' < 256 → apply (X code i) a ≡ apply (X code i) a' → a ≡ a'
 fit_one_word code count e i l = one_word (X code i) (((fit_cone code count).0 e).each i l)
 
-pub fit_two_words : (code : Code) (count : ℕ) → finding code count ≡ Fit
+pub fit_two_words : (code : Code) (count : ℕ) → finding code count ≡ None
     → (i j : ℕ) → i < count → j < count → (i ≡ j → ⊥) → (a b a' b' : ℕ) → a < 256 → b < 256 → a' < 256 → b' < 256
     → bit_xor a b ≡ bit_xor a' b' → bit_xor (apply (X code i) a) (apply (X code j) b) ≡ bit_xor (apply (X code i) a') (apply (X code j) b')
     → (a ≡ a') × (b ≡ b')
@@ -152,7 +152,7 @@ module _ (code : Code) (p q : ℕ) (hp : p < 256) (hq : q < 256) where
         only = λ x y hx hy m. (sym (xor_zero_r x) ∙ m.first, m.second);
       }
 
-pub pair_solved : (code : Code) (count : ℕ) → finding code count ≡ Fit → (d e : Device) → Known count d → Known count e → d ≢ e
+pub pair_solved : (code : Code) (count : ℕ) → finding code count ≡ None → (d e : Device) → Known count d → Known count e → d ≢ e
     → (p q : ℕ)
     → p < 256
     → q < 256

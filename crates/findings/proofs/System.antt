@@ -11,7 +11,7 @@ use Rattle.matrix.specs.Fold.{fold}
 use Rattle.matrix.specs.Matrix.{apply}
 use Rattle.findings.specs.Findings.{Code, X, finding}
 use Rattle.findings.specs.Rebuild.{Device, Word, P, Q, Known, Held, Bytes, xors, Meets, Survive, Rebuilt, Rebuilds}
-use Rattle.findings.specs.declared.Finding.TheVariants.{Fit}
+use Rattle.std.specs.Prelude.{None}
 use Rattle.matrix.proofs.Fold.{fold_ext}
 use Rattle.matrix.proofs.Bits.{xor_zero, xor_assoc}
 use Rattle.matrix.proofs.Linear.{apply_lt, apply_sum}
@@ -160,7 +160,7 @@ module _ (count : ℕ) (d e : Device) (hd : Known count d) (he : Known count e) 
         agree x m (yes q) = put_here d 0 (put e 0 s) x q ∙ sym (put_here d 0 t x q)
         agree x m (no q) = put_there d 0 (put e 0 s) x q ∙ put_there e 0 s x m ∙ sym (survive x q m) ∙ sym (put_there d 0 t x q)
 
-  module _ (code : Code) (fit : finding code count ≡ Fit) (bytes : Bytes count s) where
+  module _ (code : Code) (fit : finding code count ≡ None) (bytes : Bytes count s) where
     rest_bytes : Bytes count rest
     unfolding rest
     rest_bytes = put_bytes count d 0 (put e 0 s) (omega arith) (put_bytes count e 0 s (omega arith) bytes)
@@ -241,5 +241,5 @@ module _ (count : ℕ) (d e : Device) (hd : Known count d) (he : Known count e) 
         at t kept ta tb x (no m) (yes k) = ap t k ∙ tb ∙ sym (ap held k ∙ on_e)
         at t kept ta tb x (no m) (no k) = kept x m k ∙ sym (survive x m k)
 
-pub fit_rebuilds : (code : Code) (count : ℕ) → finding code count ≡ Fit → Rebuilds code count
+pub fit_rebuilds : (code : Code) (count : ℕ) → finding code count ≡ None → Rebuilds code count
 fit_rebuilds code count fit d e hd he n s bytes = completed count d e hd he n s code fit bytes

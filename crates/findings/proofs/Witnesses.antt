@@ -13,7 +13,8 @@ use Rattle.matrix.specs.Matrix.{Matrix, entry, component, apply, invertible}
 use Rattle.findings.specs.Findings.{finding}
 use Rattle.findings.specs.Cone.{Cone, Permutation, FirstSingular, FirstPair, Reports}
 use Rattle.findings.specs.Rebuild.{Device, Word, P, Q, Known, Held, Bytes, Rebuilt}
-use Rattle.findings.specs.declared.Finding.TheVariants.{Fit, Singular, Pair}
+use Rattle.std.specs.Prelude.{Some, None}
+use Rattle.findings.specs.declared.Flaw.TheVariants.{Singular, Pair}
 use Rattle.base.specs.Table.{tabulate}
 use Rattle.matrix.proofs.Fold.{none_fold}
 use Rattle.matrix.proofs.Invertible.{and_true}
@@ -43,15 +44,15 @@ identity_permutes =
       columns = by_place (λ c. sum 8 (λ r. entry identity r c)) refl;
     }
 
-pub found_fit : finding (identity ∷ double ∷ []) 2 ≡ Fit
+pub found_fit : finding (identity ∷ double ∷ []) 2 ≡ None
 unfolding finding invertible apply component fold tabulate
 found_fit = refl
 
-pub found_pair : finding (identity ∷ identity ∷ []) 2 ≡ Pair 0 1
+pub found_pair : finding (identity ∷ identity ∷ []) 2 ≡ Some (Pair 0 1)
 unfolding finding invertible apply component fold tabulate
 found_pair = refl
 
-pub found_singular : finding (identity ∷ zeros ∷ []) 2 ≡ Singular 1
+pub found_singular : finding (identity ∷ zeros ∷ []) 2 ≡ Some (Singular 1)
 unfolding finding invertible apply component fold tabulate
 found_singular = refl
 

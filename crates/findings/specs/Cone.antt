@@ -3,8 +3,7 @@
 use Rattle.std.specs.Prelude.{◌≡◌, ◌⊎◌, List, [], ◌∷◌, ℕ, ◌<◌}
 use Rattle.matrix.specs.Fold.{sum}
 use Rattle.matrix.specs.Matrix.{Matrix, entry, add, Invertible}
-use Rattle.findings.specs.Findings.{Code, X, places_of}
-use Rattle.findings.specs.declared.Finding.{Finding}
+use Rattle.findings.specs.Findings.{Code, X, Finding, places_of}
 
 -- definition 3.1.1, over the places below count: every matrix is invertible, and so is the sum of every two at different places
 pub record Cone (code : Code) (count : ℕ) : Type 0 where

@@ -2,92 +2,48 @@
 // with neither can rebuild any two lost words (000, definition 3.1.1).
 #![tactic(auto)]
 
-ghost use Rattle.std.specs.Prelude.{◌≡◌, ◌≤◌, ◌<◌, min};
-ghost use Rattle.findings.specs.Findings.{
-  first,
-  is_fit,
-  singular_at,
-  pair_at,
-  first_pair,
-  finding,
-};
+ghost use Rattle.std.specs.Prelude.{◌≡◌, ◌<◌, min, length};
+ghost use Rattle.findings.specs.Findings.{first, singular_at, pair_at, first_pair, finding};
 
-// What is wrong with a code: nothing, the first singular matrix, or the first two whose sum is singular.
+use matrix::Matrix;
+
+pub type Code = [Matrix; 8];
+
+// What is wrong with a code: a singular matrix, or two whose sum is singular.
 #[derive(Clone, Copy)]
-pub enum Finding {
-    Fit,
+pub enum Flaw {
     Singular(usize),
     Pair(usize, usize),
 }
 
-pub fn is_fit(f: Finding) -> bool
-    ensures { result ≡ is_fit f }
+fn first_singular(code: &[Matrix]) -> Option<Flaw>
+    ensures { result ≡ first (length code.now) (λ i. singular_at code.now i) }
 {
-    match f {
-        Finding::Fit => true,
-        Finding::Singular(_) => false,
-        Finding::Pair(_, _) => false,
-    }
-}
-
-fn first_singular(code: [[u8; 8]; 8], count: usize) -> Finding
-    requires { count ≤ 8 }
-    ensures { result ≡ first count (λ i. singular_at code i) }
-{
-    for i in 0..count {
-        let m = code[i];
-        if matrix::is_singular(m) {
-            return Finding::Singular(i);
-        }
-    }
-    Finding::Fit
+    code.iter()
+        .position(|m| matrix::is_singular(*m))
+        .map(Flaw::Singular)
 }
 
 // The first pair that begins with i.
-fn first_partner(code: [[u8; 8]; 8], count: usize, i: usize) -> Finding
-    requires { (count ≤ 8) × (i < count) }
-    ensures { result ≡ first count (λ j. pair_at code i j) }
+fn first_partner(code: &[Matrix], i: usize) -> Option<Flaw>
+    requires { i < length code.now }
+    ensures { result ≡ first (length code.now) (λ j. pair_at code.now i j) }
 {
-    let a = code[i];
-    for j in i + 1..count {
-        let b = code[j];
-        if matrix::is_singular(matrix::sum_of(a, b)) {
-            return Finding::Pair(i, j);
-        }
-    }
-    Finding::Fit
+    (i + 1..code.len())
+        .find(|j| matrix::is_singular(matrix::sum_of(code[i], code[*j])))
+        .map(|j| Flaw::Pair(i, j))
 }
 
-fn first_pair(code: [[u8; 8]; 8], count: usize) -> Finding
-    requires { count ≤ 8 }
-    ensures { result ≡ first_pair code count }
+fn first_pair(code: &[Matrix]) -> Option<Flaw>
+    ensures { result ≡ first_pair code.now (length code.now) }
 {
-    for i in 0..count {
-        let found = first_partner(code, count, i);
-        if !is_fit(found) {
-            return found;
-        }
-    }
-    Finding::Fit
+    (0..code.len()).find_map(|i| first_partner(code, i))
 }
 
-fn find_below(code: [[u8; 8]; 8], count: usize) -> Finding
-    requires { count ≤ 8 }
-    ensures { result ≡ finding code count }
-{
-    let found = first_singular(code, count);
-    if !is_fit(found) {
-        return found;
-    }
-    first_pair(code, count)
-}
-
-// The finding over the matrices at the first count places, of which a code has eight.
-pub fn find(code: [[u8; 8]; 8], count: usize) -> Finding
+// What is wrong with the matrices at the first count places, of which a code has eight.
+pub fn find(code: Code, count: usize) -> Option<Flaw>
     ensures { result ≡ finding code (min count 8) }
 {
-    if 8 < count {
-        return find_below(code, 8);
-    }
-    find_below(code, count)
+    let used = &code[..count.min(8)];
+    first_singular(used).or_else(|| first_pair(used))
 }

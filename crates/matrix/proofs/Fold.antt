@@ -1,13 +1,16 @@
 -- Laws of a fold over the places below n, each stated once for sums, "all of" and "the first of", by induction on n.
 -- Assumes nothing.
 use mathlib.Core.Path.{◌≡◌, refl, ap, ap₂, ◌∙◌}
+use mathlib.Core.Bool.{Bool, ◌&&◌}
 use mathlib.Core.Logic.{⊎_elim}
 use Prim.Native.Nat.{ℕ, zero, suc, ◌+◌, ◌*◌, ◌≤◌, ◌<◌, zero-le}
 use native.Mathlib.Decide.{le_ind}
 use native.Mathlib.Nat.{not-suc-le-zero, eq-or-lt_of_le, le_of_suc-le-suc, suc-mul, add-le-add}
 use native.Mathlib.Numerals.{add-one}
 use native.Mathlib.Omega.{arith}
-use Rattle.matrix.specs.Fold.{fold, sum}
+use lib.Dec.{eqb}
+use Rattle.std.proofs.lemmas.Bool.Decides.{nat_tests}
+use Rattle.matrix.specs.Fold.{fold, sum, all}
 
 module _ {A : Type 0} (op : A → A → A) (e : A) where
   -- one place more, as a loop counts
@@ -37,6 +40,15 @@ module _ {A : Type 0} (op : A → A → A) (e : A) where
   none_fold h zero f p k l = absurd (not-suc-le-zero l)
   none_fold h (suc n) f p k l =
       ⊎_elim (λ q. ap f q ∙ (h _ _ p).1) (λ b. none_fold h n f (h _ _ p).0 k b) (eq-or-lt_of_le (le_of_suc-le-suc l))
+
+-- a sum is zero where each of its terms is
+pub zero_terms : (n : ℕ) (f : ℕ → ℕ) → eqb (sum n f) 0 ≡ all n (λ k. eqb (f k) 0)
+unfolding fold
+zero_terms zero f = refl
+zero_terms (suc n) f = both (sum n f) (f n) ∙ ap (λ (b : Bool). b && eqb (f n) 0) (zero_terms n f)
+  where
+    both : (a b : ℕ) → eqb (a + b) 0 ≡ (eqb a 0 && eqb b 0)
+    both a b = grind (arith, nat_tests)
 
 -- a sum of n terms of at most b
 pub sum_le : (b n : ℕ) (f : ℕ → ℕ) → ((k : ℕ) → f k ≤ b) → sum n f ≤ n * b

@@ -1,4 +1,5 @@
 pub mod Fold
+pub mod Elements
 pub mod Bits
 pub mod Product
 pub mod Linear

@@ -1,25 +1,23 @@
--- `bitmatrix::ones_of` meets its contract. The loop's invariant: n is the sum over the matrices below i, at most 64 for each.
-use Prim.Native.Nat.{◌+◌}
-use mathlib.Core.Path.{◌≡◌, sym, ap₂, ◌∙◌}
+-- `bitmatrix::ones_of` meets its contract: the ones of a matrix are at most 64, so the sum fits.
+use mathlib.Core.Path.{◌≡◌, ◌∙◌}
+use Prim.Native.Nat.{◌^◌}
 use native.Mathlib.Omega.{arith}
 use borrow.Author.Rules.{rules}
-use Rattle.matrix.specs.Fold.{fold}
-use Rattle.bitmatrix.specs.Judge.{ones}
-use Rattle.matrix.proofs.Fold.{fold_more}
-use Rattle.bitmatrix.proofs.Weight.{matrices_le}
+use Rattle.std.specs.List.{sum_by}
+use Rattle.std.proofs.iter.runs.Made.{chains}
+use Rattle.std.proofs.lemmas.Iterator.{YieldsList-from_slice, YieldsList-from_map}
+use Rattle.std.proofs.lemmas.Iterator.Consumers.{fits_by_from_yields_list}
+use Rattle.matrix.specs.Matrix.{weight}
+use Rattle.bitmatrix.proofs.Weight.{ones_elements, ones_le}
 use Rattle.bitmatrix.proofs.ones_of.Goals as goal
 
-pub loop-i-init : goal.loop-i-init
-unfolding fold
-loop-i-init c = search rules
-
-pub overflow_add-n : goal.overflow_add-n
-overflow_add-n c =
-    omega (arith, ap₂ ◌+◌ c.loop-i.invariant.1 c.weight_of-n.ensures ∙ sym (fold_more ◌+◌ 0 _ _), matrices_le c.args.code (c.loop-i.i + 1))
-
-pub loop-i-preserved : goal.loop-i-preserved
-loop-i-preserved c = (search rules, ap₂ ◌+◌ c.loop-i.invariant.1 c.weight_of-n.ensures ∙ sym (fold_more ◌+◌ 0 _ _))
+pub sum-requires-clause-fits : goal.sum-requires-clause-fits
+sum-requires-clause-fits c =
+    fits_by_from_yields_list weight c.args.code.now _ (2 ^ 64)
+    (YieldsList-from_map _ weight (YieldsList-from_slice c.args.code.now cc) c.map.ensures.closure (λ x r q k. search rules))
+    (omega (arith, ones_elements c.args.code.now, ones_le c.args.code.now))
 
 pub returns : goal.returns
-unfolding ones
-returns c = let all-counted : c.loop-i.i ≡ c.args.count = omega arith in rw all-counted at c.loop-i.invariant.1
+returns c =
+    let total : c.sum.result ≡ sum_by weight c.args.code.now = search (rules, chains) in
+    total ∙ ones_elements c.args.code.now

@@ -1,29 +1,21 @@
--- `findings::first_partner` meets its contract. The loop's invariant: no pair of i with a place below j was found; up to i there is none to look at.
-use mathlib.Core.Path.{refl, sym, ap, ap₂, ◌∙◌}
-use mathlib.Core.Bool.{Bool, ◌&&◌}
-use native.Mathlib.Omega.{arith}
+-- `findings::first_partner` meets its contract: the place is the first after i whose matrix and that at i have a singular sum.
+use mathlib.Core.Path.{◌≡◌, sym, ◌∙◌}
+use mathlib.Core.Bool.{true, false}
+use borrow.Author.Tests.{tests}
 use borrow.Author.Rules.{rules}
-use borrow.Author.Tests.{lt-ltb}
-use Rattle.matrix.specs.Matrix.{singular}
-use Rattle.findings.specs.Findings.{or_else, when}
-use Rattle.findings.specs.declared.Finding.TheVariants.{Fit, Pair}
-use Rattle.matrix.proofs.Fold.{fold_more, fold_met, fold_none}
-use Rattle.findings.proofs.Reports.{pair_passes}
+use lib.ListN.{length}
+use Rattle.std.specs.Option.{option_map}
+use Rattle.std.proofs.lemmas.Iterator.{first_from_Range}
+use Rattle.matrix.specs.Matrix.{add, singular}
+use Rattle.findings.specs.Findings.{X}
+use Rattle.findings.specs.declared.Flaw.TheVariants.{Pair}
+use Rattle.findings.proofs.Findings.{first_after}
 use Rattle.findings.proofs.first_partner.Goals as goal
 
-pub loop-j-init : goal.loop-j-init
-loop-j-init c = (omega arith, omega arith, fold_none or_else Fit refl _ _ (λ k l. pair_passes c.args.code c.args.i k (λ o. absurd (omega arith))))
-
-pub returns-then-is_singular : goal.returns-then-is_singular
-returns-then-is_singular c =
-    let turn =
-    ap₂ (λ (s t : Bool). when (s && t) (Pair c.args.i c.loop-j.j)) (lt-ltb c.args.i c.loop-j.j c.loop-j.invariant.0)
-    (ap singular (sym c.sum_of.ensures) ∙ sym c.is_singular.ensures ∙ c.if-is_singular.true) in
-    sym (fold_met or_else Fit (λ g. refl) _ _ _ c.loop-j-test.true (ap₂ or_else c.loop-j.invariant.2 turn))
-
-pub loop-j-preserved : goal.loop-j-preserved
-loop-j-preserved c =
-    let turn =
-    ap₂ (λ (s t : Bool). when (s && t) (Pair c.args.i c.loop-j.j)) (lt-ltb c.args.i c.loop-j.j c.loop-j.invariant.0)
-    (ap singular (sym c.sum_of.ensures) ∙ sym c.is_singular.ensures ∙ c.if-is_singular.false) in
-    (search rules, search rules, fold_more or_else Fit _ _ ∙ ap₂ or_else c.loop-j.invariant.2 turn)
+pub returns : goal.returns
+returns c =
+    let code = c.args.code.now in
+    let is : c.map.result ≡ option_map (Pair c.args.i) c.find.result = search rules in
+    let place = first_from_Range _ _ _ c.find.result (λ j. singular (add (X code c.args.i) (X code j)) ≡ true) (λ j. singular (add (X code c.args.i) (X code j)) ≡ false) c.find.ensures.ran
+    (λ x q k. search (rules, tests)) (λ x q k. search (rules, tests)) in
+    is ∙ sym (first_after (λ j. singular (add (X code c.args.i) (X code j))) (Pair c.args.i) c.args.i (length code) c.find.result place)

@@ -1,23 +1,20 @@
--- `findings::first_singular` meets its contract. The loop's invariant: no matrix below i is singular.
-use mathlib.Core.Path.{refl, sym, ap, ap₂, ◌∙◌}
-use mathlib.Core.Bool.{Bool}
+-- `findings::first_singular` meets its contract: the place is the first whose matrix is singular.
+use mathlib.Core.Path.{◌≡◌, sym, ◌∙◌}
+use borrow.Author.Tests.{tests}
 use borrow.Author.Rules.{rules}
-use Rattle.matrix.specs.Fold.{fold}
-use Rattle.findings.specs.Findings.{or_else, when}
-use Rattle.findings.specs.declared.Finding.TheVariants.{Fit, Singular}
-use Rattle.matrix.proofs.Fold.{fold_more, fold_met}
+use mathlib.Core.Bool.{true, false}
+use mathlib.Core.List.{[]}
+use Rattle.std.specs.Option.{option_map}
+use Rattle.std.proofs.lemmas.Iterator.{YieldsList-from_slice, IsFirst-from_position}
+use Rattle.matrix.specs.Matrix.{singular}
+use Rattle.findings.specs.declared.Flaw.TheVariants.{Singular}
+use Rattle.findings.proofs.Findings.{first_element}
 use Rattle.findings.proofs.first_singular.Goals as goal
 
-pub loop-i-init : goal.loop-i-init
-unfolding fold
-loop-i-init c = search rules
-
-pub returns-then-is_singular : goal.returns-then-is_singular
-returns-then-is_singular c =
-    let turn = ap (λ (t : Bool). when t (Singular c.loop-i.i)) (sym c.is_singular.ensures ∙ c.if-is_singular.true) in
-    sym (fold_met or_else Fit (λ g. refl) _ _ _ c.loop-i-test.true (ap₂ or_else c.loop-i.invariant.1 turn))
-
-pub loop-i-preserved : goal.loop-i-preserved
-loop-i-preserved c =
-    let turn = ap (λ (t : Bool). when t (Singular c.loop-i.i)) (sym c.is_singular.ensures ∙ c.if-is_singular.false) in
-    (search rules, fold_more or_else Fit _ _ ∙ ap₂ or_else c.loop-i.invariant.1 turn)
+pub returns : goal.returns
+returns c =
+    let code = c.args.code.now in
+    let is : c.map.result ≡ option_map Singular c.position.result = search rules in
+    let place = IsFirst-from_position _ _ c.position.result (λ m. singular m ≡ true) (λ m. singular m ≡ false) c.position.ensures.ran (YieldsList-from_slice code cc)
+    (λ x q k. search (rules, tests)) (λ x q k. search (rules, tests)) in
+    is ∙ sym (first_element singular Singular code [] c.position.result place)

@@ -1,22 +1,18 @@
--- `matrix::maps_to_zero` meets its contract. The loop's invariant: the bits of the product below r are zero.
-use Prim.Native.Nat.{ℕ, ◌%◌}
-use mathlib.Core.Path.{sym, ap, ◌∙◌}
-use native.Mathlib.Omega.{arith}
-use borrow.Author.Count.{below_more}
-use borrow.Author.Tests.{eq-eqb, ne_eqb}
+-- `matrix::maps_to_zero` meets its contract: the product is zero where each row shares an even number of ones with v.
+use mathlib.Core.Path.{◌∙◌}
+use Prim.Native.Nat.{◌%◌}
+use borrow.Author.Tests.{tests}
 use borrow.Author.Rules.{rules}
-use Rattle.matrix.proofs.Product.{component_and, apply_zero, zero_apply}
+use lib.Bits.{bit_and}
+use lib.Count
+use lib.Dec.{eqb}
+use Rattle.std.proofs.lemmas.Iterator.{YieldsList-from_slice}
+use Rattle.std.proofs.lemmas.Iterator.Search.{all_from_yields_List}
+use Rattle.matrix.proofs.Product.{zero_rows}
 use Rattle.matrix.proofs.maps_to_zero.Goals as goal
 
-pub returns-then-ones_of_byte-ne0 : goal.returns-then-ones_of_byte-ne0
-returns-then-ones_of_byte-ne0 c =
-    let parity = ap (λ (n : ℕ). n % 2) c.ones_of_byte.ensures ∙ component_and _ _ _ in
-    sym (ne_eqb _ _ (λ p. c.if-ones_of_byte-ne0.true (parity ∙ zero_apply _ _ p _ c.loop-r-test.true)))
-
-pub loop-r-preserved : goal.loop-r-preserved
-loop-r-preserved c =
-    let parity = ap (λ (n : ℕ). n % 2) c.ones_of_byte.ensures ∙ component_and _ _ _ in
-    (search rules, below_more _ _ c.loop-r.invariant.1 (sym parity ∙ c.if-ones_of_byte-ne0.false))
-
 pub returns : goal.returns
-returns c = sym (eq-eqb _ _ (apply_zero _ _ (λ r l. c.loop-r.invariant.1 r (omega arith))))
+returns c =
+    all_from_yields_List (λ row. eqb (Count.ones (bit_and row c.args.v) % 2) 0) _ _ _ c.all.ensures.ran (YieldsList-from_slice c.args.m cc)
+    (λ x b q k. search (rules, tests))
+    ∙ zero_rows c.args.m c.args.v (cc) c.ranges.v.fits

@@ -1,7 +1,7 @@
--- `matrix::sum_of` meets its contract. The loop's invariant: the rows below r are summed.
-use native.Mathlib.Omega.{arith}
-use Rattle.base.proofs.Fill.{fill_all}
+-- `matrix::sum_of` meets its contract: each row is the sum of the two at its place.
+use borrow.Author.Rules.{rules}
+use Rattle.base.proofs.Table.{is_tabulate}
 use Rattle.matrix.proofs.sum_of.Goals as goal
 
 pub returns : goal.returns
-returns c = fill_all c.loop-r.invariant.1 (omega arith)
+returns c = is_tabulate 8 _ c.from_fn.result c.from_fn.ensures.items.long (λ i l. search (rules, c.from_fn.ensures.items.at i 0 l))

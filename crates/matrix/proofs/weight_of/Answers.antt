@@ -1,24 +1,23 @@
--- `matrix::weight_of` meets its contract. The loop's invariant: n is the sum over the rows below r, at most 8 for each.
-use Prim.Native.Nat.{◌+◌}
-use mathlib.Core.Path.{◌≡◌, sym, ap₂, ◌∙◌}
+-- `matrix::weight_of` meets its contract: the ones of a row are at most 8, so the sum fits.
+use mathlib.Core.Path.{◌≡◌, ◌∙◌}
+use Prim.Native.Nat.{◌^◌}
 use native.Mathlib.Omega.{arith}
 use borrow.Author.Rules.{rules}
-use Rattle.matrix.specs.Fold.{fold}
-use Rattle.matrix.specs.Matrix.{weight}
-use Rattle.matrix.proofs.Fold.{fold_more}
-use Rattle.matrix.proofs.Weight.{rows_le}
+use lib.Count
+use Rattle.std.specs.List.{sum_by}
+use Rattle.std.proofs.iter.runs.Made.{chains}
+use Rattle.std.proofs.lemmas.Iterator.{YieldsList-from_slice, YieldsList-from_map}
+use Rattle.std.proofs.lemmas.Iterator.Consumers.{fits_by_from_yields_list}
+use Rattle.matrix.proofs.Weight.{weight_elements, weight_le}
 use Rattle.matrix.proofs.weight_of.Goals as goal
 
-pub loop-r-init : goal.loop-r-init
-unfolding fold
-loop-r-init c = search rules
-
-pub overflow_add-n : goal.overflow_add-n
-overflow_add-n c = omega (arith, (ap₂ ◌+◌ c.loop-r.invariant.1 c.ones_of_byte-n.ensures ∙ sym (fold_more ◌+◌ 0 _ _)), rows_le c.args.m (c.loop-r.r + 1))
-
-pub loop-r-preserved : goal.loop-r-preserved
-loop-r-preserved c = (search rules, ap₂ ◌+◌ c.loop-r.invariant.1 c.ones_of_byte-n.ensures ∙ sym (fold_more ◌+◌ 0 _ _))
+pub sum-requires-clause-fits : goal.sum-requires-clause-fits
+sum-requires-clause-fits c =
+    fits_by_from_yields_list Count.ones c.args.m _ (2 ^ 64)
+    (YieldsList-from_map _ Count.ones (YieldsList-from_slice c.args.m cc) c.map.ensures.closure (λ x r q k. search rules))
+    (omega (arith, weight_elements c.args.m (cc) (λ r. search rules), weight_le c.args.m))
 
 pub returns : goal.returns
-unfolding weight
-returns c = let all-rows : c.loop-r.r ≡ 8 = omega arith in rw all-rows at c.loop-r.invariant.1
+returns c =
+    let total : c.sum.result ≡ sum_by Count.ones c.args.m = search (rules, chains) in
+    total ∙ weight_elements c.args.m (cc) (λ r. search rules)
