@@ -3,7 +3,7 @@
 #![tactic(auto)]
 
 // A device of a stripe: a data disk by its number, or a parity.
-#[derive(Clone, Copy)]
+#[derive(Clone, Copy, PartialEq, Eq)]
 pub enum Device {
     Data(usize),
     P,
@@ -11,7 +11,7 @@ pub enum Device {
 }
 
 // One lost device, or two.
-#[derive(Clone, Copy)]
+#[derive(Clone, Copy, PartialEq, Eq)]
 pub enum Lost {
     One(Device),
     Two(Device, Device),

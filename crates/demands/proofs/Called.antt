@@ -16,8 +16,7 @@ use Rattle.column.specs.Column.{reed_solomon}
 use Rattle.column.specs.Loss.{named, overwrite}
 use Rattle.column.proofs.Loss.{spared_of}
 use Rattle.shape.specs.declared.Geometry.{Geometry}
-use Rattle.devices.specs.declared.Naming.{Naming}
-use Rattle.devices.specs.declared.Naming.TheVariants.{Loss, Wrong}
+use Rattle.std.specs.Prelude.{Option, Some, None}
 use Rattle.shape.specs.Layout.{column}
 use Rattle.shape.specs.Refusals.{library, shape_refusals, encode_refusal, write_refusal, WellShaped}
 use Rattle.devices.specs.Refusals.{rebuild_refusal}
@@ -56,9 +55,9 @@ repair_long : (h : Geometry) (s : List ℕ) → length (after_repair h s) ≡ le
 unfolding after_repair
 repair_long h s = unless_long (repair_refusal h s) (repaired h s) s (repaired_long h s)
 
-named_long : (h : Geometry) (naming : Naming) (s : List ℕ) → length (rebuilt_by h naming s) ≡ length s
-named_long h (Loss lost) s = rebuild_long h lost s
-named_long h Wrong s = refl
+named_long : (h : Geometry) (naming : Option Lost) (s : List ℕ) → length (rebuilt_by h naming s) ≡ length s
+named_long h (Some lost) s = rebuild_long h lost s
+named_long h None s = refl
 
 -- a stripe with a loss is what `lose` makes of it with the bytes that it was left with
 lose_is : (g : Geometry) (lost : Lost) (s t : List ℕ) → WellShaped g s → Loses g lost s t → lose g lost t s ≡ t
@@ -71,11 +70,11 @@ lose_is g lost s t shaped loses =
     at i r hi hr false e = sym (loses.spared i r hi hr (spared_of g.n lost r e))
 
 -- a rebuild by codes that name a loss is a rebuild of that loss
-by_codes : (g : Geometry) {first second : ℕ} {lost : Lost} {s : List ℕ} {r : ℕ} {t : List ℕ} → naming_of first second ≡ Loss lost
+by_codes : (g : Geometry) {first second : ℕ} {lost : Lost} {s : List ℕ} {r : ℕ} {t : List ℕ} → naming_of first second ≡ Some lost
     → RebuildNamedCall g first second s r t
     → RebuildCall g lost s r t
 by_codes g {s = s} e call =
-    record { result = call.result ∙ ap (named_refusal g (length s)) e; stripe = call.stripe ∙ ap (λ (n : Naming). rebuilt_by g n s) e }
+    record { result = call.result ∙ ap (named_refusal g (length s)) e; stripe = call.stripe ∙ ap (λ (n : Option Lost). rebuilt_by g n s) e }
 
 module _ (g : Geometry) (encoded : Type 0) where
   step_runs : {s t : List ℕ} {m : Member} → WellShaped g s → Step g encoded s m t → t ≡ m.runs s
@@ -105,7 +104,7 @@ module _ (g : Geometry) (encoded : Type 0) where
 
   pub step_allowed : {s t : List ℕ} {m : Member} → Step g encoded s m t → Allowed g (length s) encoded m
   step_allowed (writes h disk offset new r hn same call) = write h disk offset new (slice_bytes new hn) (λ e. same (call.result ∙ e))
-  step_allowed (refuses h lost r n call) = refused h (Loss lost) (λ e. n (call.result ∙ e))
+  step_allowed (refuses h lost r n call) = refused h (Some lost) (λ e. n (call.result ∙ e))
   step_allowed (refuses_codes h first second r n call) = refused h (naming_of first second) (λ e. n (call.result ∙ e))
   step_allowed (rebuilds lost left enc loses call) = loss_allowed lost left enc loses call
   step_allowed (rebuilds_codes first second lost left enc named loses call) = loss_allowed lost left enc loses (by_codes g named call)
@@ -137,13 +136,13 @@ module _ (g : Geometry) (s : List ℕ) {r : ℕ} {t : List ℕ} (accepted : r �
     demand2_called lost call = subst (Rebuilt g lost s) (sym call.stripe) (demand2 g lost s (slice_bytes s slice) (sym call.result ∙ accepted))
 
     -- by codes: they name a loss
-    pub demand2_by_codes : (first second : ℕ) → RebuildNamedCall g first second s r t → (lost : Lost) × (naming_of first second ≡ Loss lost) × Rebuilt g lost s t
+    pub demand2_by_codes : (first second : ℕ) → RebuildNamedCall g first second s r t → (lost : Lost) × (naming_of first second ≡ Some lost) × Rebuilt g lost s t
     demand2_by_codes first second call = go (naming_of first second) refl (sym call.result ∙ accepted)
       where
-        go : (naming : Naming) → naming_of first second ≡ naming → named_refusal g (length s) naming ≡ 0
-            → (lost : Lost) × (naming_of first second ≡ Loss lost) × Rebuilt g lost s t
-        go (Loss lost) e none = (lost, e, demand2_called lost (by_codes g e call))
-        go Wrong e none =
+        go : (naming : Option Lost) → naming_of first second ≡ naming → named_refusal g (length s) naming ≡ 0
+            → (lost : Lost) × (naming_of first second ≡ Some lost) × Rebuilt g lost s t
+        go (Some lost) e none = (lost, e, demand2_called lost (by_codes g e call))
+        go None e none =
             let four : ◌≡◌ {A = ℕ} 4 0 =
             (first_none (shape_refusals library g (length s)) (record { number = 4; applies = true } ∷ record { number = 5; applies = false } ∷ []) refl none).1
             in

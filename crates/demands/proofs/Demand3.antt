@@ -23,8 +23,7 @@ use Rattle.column.proofs.Columns.{write_back, write_symbols}
 use Rattle.column.proofs.Rebuild.{rebuild_symbols}
 use Rattle.column.proofs.Series.{kept_encoded}
 use Rattle.shape.specs.declared.Geometry.{Geometry}
-use Rattle.devices.specs.declared.Naming.{Naming}
-use Rattle.devices.specs.declared.Naming.TheVariants.{Loss, Wrong}
+use Rattle.std.specs.Prelude.{Option, Some, None}
 use Rattle.shape.specs.Layout.{column}
 use Rattle.shape.specs.Refusals.{encode_refusal, write_refusal, WellShaped}
 use Rattle.devices.specs.Refusals.{rebuild_refusal}
@@ -126,9 +125,9 @@ module _ (g : Geometry) (t : List ℕ) (bytes : Bytes t) (shaped : WellShaped g 
       go (yes e) = rw (same e) (accepted_does disk offset new hn (rw (same e) at e))
       go (no n) = stays (write_member (length t) h disk offset new) (λ i p. rw (ne_eqb k 0 n)) (write_refused h disk offset new t n)
 
-  refused_does : (h : Geometry) (naming : Naming) → named_refusal h (length t) naming ≢ 0 → Done (refused_rebuild h naming)
-  refused_does h (Loss lost) n = stays (refused_rebuild h (Loss lost)) (λ k p. refl) (rebuild_refused h lost t n)
-  refused_does h Wrong n = stays (refused_rebuild h Wrong) (λ k p. refl) refl
+  refused_does : (h : Geometry) (naming : Option Lost) → named_refusal h (length t) naming ≢ 0 → Done (refused_rebuild h naming)
+  refused_does h (Some lost) n = stays (refused_rebuild h (Some lost)) (λ k p. refl) (rebuild_refused h lost t n)
+  refused_does h None n = stays (refused_rebuild h None) (λ k p. refl) refl
 
   loss_does : (lost : Lost) (junk : List ℕ) → Bytes junk → rebuild_refusal g (length t) lost ≡ 0 → EncodedStripe (layout_of g) reed_solomon t
       → Done (loss_member g lost junk)

@@ -27,7 +27,7 @@ use Rattle.verdict.specs.Summary.{mixed, summary}
 use Rattle.verdict.specs.Agreement.{CleanOr}
 use Rattle.verdict.proofs.Agreement.{summary_clean_or, summary_clean, summary_agree, summary_differ}
 use Rattle.compare.specs.Compare.{verdicts, after_check}
-use Rattle.stripe.specs.declared.Checked.TheVariants.{Summary}
+use Rattle.std.specs.Prelude.{Ok}
 use Rattle.stripe.specs.Calls.{checked_of, CheckCall}
 use Rattle.demands.specs.Layout.{layout_of}
 use Rattle.demands.specs.Series.{EncodedStripe}
@@ -109,11 +109,11 @@ module _ (g : Geometry) (t : List ℕ) (shaped : WellShaped g t) where
   summary_summarizes = record { clean = clean; agree = summary_agree vs; differ = summary_differ vs never_mixed; right = right }
 
 -- so does that of a check that is done, with the verdicts that it leaves
-pub check_summarizes : (g : Geometry) (t before : List ℕ) {v : ℕ} {room : List ℕ} → CheckCall g t before (Summary v) room → Summarizes g t room v
+pub check_summarizes : (g : Geometry) (t before : List ℕ) {v : ℕ} {room : List ℕ} → CheckCall g t before (Ok v) room → Summarizes g t room v
 unfolding after_check
 check_summarizes g t before {v} {room} call = go (check_refusal g (length t) (length before)) refl call.result
   where
-    go : (k : ℕ) → check_refusal g (length t) (length before) ≡ k → Summary v ≡ checked_of k (summary (verdicts g t)) → Summarizes g t room v
+    go : (k : ℕ) → check_refusal g (length t) (length before) ≡ k → Ok v ≡ checked_of k (summary (verdicts g t)) → Summarizes g t room v
     go zero e done =
         let is : v ≡ summary (verdicts g t) = cc in
         let left = call.room ∙ left_done (check_refusal g (length t) (length before)) (verdicts g t) before e in

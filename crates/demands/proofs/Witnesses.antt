@@ -19,8 +19,7 @@ use Rattle.column.specs.Column.{reed_solomon, role_of}
 use Rattle.column.specs.Loss.{Known, KnownLoss, Spared, overwrite}
 use Rattle.column.proofs.Loss.{known_role, overwrite_one, overwrite_first, overwrite_second, overwrite_spares}
 use Rattle.shape.specs.declared.Geometry.{Geometry}
-use Rattle.devices.specs.declared.Naming.{Naming}
-use Rattle.devices.specs.declared.Naming.TheVariants.{Loss}
+use Rattle.std.specs.Prelude.{Option, Some}
 use Rattle.shape.specs.Layout.{geometry, size, column}
 use Rattle.shape.specs.Refusals.{library, shape_refusals, stretch_refusals, encode_refusal, write_refusal, WellShaped}
 use Rattle.devices.specs.Refusals.{loss_refusals, rebuild_refusal}
@@ -86,7 +85,7 @@ module _ (g : Geometry) (encoded : Type 0) (s : List ℕ) (fits : encode_refusal
       writes g disk offset [] 6 (bytes_slice [] (λ j. omega arith)) (λ e. absurd (omega arith))
       record { result = sym (empty_write_six g (length s) fits disk offset hd); stripe = sym (write_refused g disk offset [] s (empty_write_refused g (length s) disk offset)) }
 
-  pub refused_rebuild_lem : Step g encoded s (refused_rebuild g (Loss (One (Data g.n)))) (after_rebuild g (One (Data g.n)) s)
+  pub refused_rebuild_lem : Step g encoded s (refused_rebuild g (Some (One (Data g.n)))) (after_rebuild g (One (Data g.n)) s)
   refused_rebuild_lem =
       refuses g (One (Data g.n)) 4 (λ e. omega arith)
       record {
@@ -115,13 +114,13 @@ module _ (g : Geometry) (encoded : Type 0) (s : List ℕ) (fits : encode_refusal
     pub loss_and_rebuild : Step g encoded s (loss_member g lost (lose g lost junk s)) (after_rebuild g lost (lose g lost junk s))
     loss_and_rebuild = rebuilds lost (lose g lost junk s) enc loses record { result = sym accepted; stripe = refl }
 
-    pub loss_and_rebuild_by_codes : (first second : ℕ) → naming_of first second ≡ Loss lost
+    pub loss_and_rebuild_by_codes : (first second : ℕ) → naming_of first second ≡ Some lost
         → Step g encoded s (loss_member g lost (lose g lost junk s)) (after_rebuild g lost (lose g lost junk s))
     loss_and_rebuild_by_codes first second named =
         rebuilds_codes first second lost (lose g lost junk s) enc named loses
         record {
           result = sym (ap (named_refusal g (length (lose g lost junk s))) named ∙ accepted);
-          stripe = sym (ap (λ (n : Naming). rebuilt_by g n (lose g lost junk s)) named);
+          stripe = sym (ap (λ (n : Option Lost). rebuilt_by g n (lose g lost junk s)) named);
         }
 
   -- a repair of no disks
@@ -139,11 +138,11 @@ module _ (g : Geometry) (encoded : Type 0) (s : List ℕ) (fits : encode_refusal
       record { result = sym (damage_accepted g s slice fits is d known (lose g (One d) junk s) left); stripe = refl }
 
 -- codes that name a loss of one device, and of two
-pub code_of_a_disk : naming_of 0 65535 ≡ Loss (One (Data 0))
+pub code_of_a_disk : naming_of 0 65535 ≡ Some (One (Data 0))
 unfolding named_by
 code_of_a_disk = refl
 
-pub codes_of_parities : naming_of 256 257 ≡ Loss (Two P Q)
+pub codes_of_parities : naming_of 256 257 ≡ Some (Two P Q)
 unfolding named_by
 codes_of_parities = refl
 
@@ -157,7 +156,7 @@ damage_gives_nothing g d junk k p = refl
 pub refused_repair_gives_nothing : GivesNothing refused_repair
 refused_repair_gives_nothing k p = refl
 
-pub refused_rebuild_gives_nothing : (h : Geometry) (naming : Naming) → GivesNothing (refused_rebuild h naming)
+pub refused_rebuild_gives_nothing : (h : Geometry) (naming : Option Lost) → GivesNothing (refused_rebuild h naming)
 refused_rebuild_gives_nothing h naming k p = refl
 
 pub refused_write_gives_nothing : (len : ℕ) (h : Geometry) (disk offset : ℕ) (new : List ℕ) → write_refusal h len disk offset (length new) ≢ 0

@@ -9,7 +9,7 @@ use Rattle.column.specs.declared.Lost.TheVariants.{One}
 use Rattle.column.specs.Column.{reed_solomon}
 use Rattle.column.specs.Loss.{Spared, KnownLoss}
 use Rattle.shape.specs.declared.Geometry.{Geometry}
-use Rattle.devices.specs.declared.Naming.TheVariants.{Loss}
+use Rattle.std.specs.Prelude.{Option, Some}
 use Rattle.shape.specs.Layout.{column}
 use Rattle.devices.specs.Codes.{naming_of}
 use Rattle.write.specs.Write.{WriteCall}
@@ -36,7 +36,7 @@ pub data Step (g : Geometry) (encoded : Type 0) : List ℕ → Member → List �
       → Step g encoded s (write_member (length s) h disk offset new) t
   -- a refused rebuild of any stripe, by devices and by codes
   refuses : {s t : List ℕ} (h : Geometry) (lost : Lost) (r : ℕ) → r ≢ 0 → RebuildCall h lost s r t
-      → Step g encoded s (refused_rebuild h (Loss lost)) t
+      → Step g encoded s (refused_rebuild h (Some lost)) t
   refuses_codes : {s t : List ℕ} (h : Geometry) (first second r : ℕ) → r ≢ 0 → RebuildNamedCall h first second s r t
       → Step g encoded s (refused_rebuild h (naming_of first second)) t
   -- a refused repair of any stripe
@@ -44,7 +44,7 @@ pub data Step (g : Geometry) (encoded : Type 0) : List ℕ → Member → List �
   -- a loss, where the start is encoded, and the accepted rebuild of just its devices
   rebuilds : {s t : List ℕ} (lost : Lost) (left : List ℕ) → encoded → Loses g lost s left → RebuildCall g lost left 0 t
       → Step g encoded s (loss_member g lost left) t
-  rebuilds_codes : {s t : List ℕ} (first second : ℕ) (lost : Lost) (left : List ℕ) → encoded → naming_of first second ≡ Loss lost → Loses g lost s left
+  rebuilds_codes : {s t : List ℕ} (first second : ℕ) (lost : Lost) (left : List ℕ) → encoded → naming_of first second ≡ Some lost → Loses g lost s left
       → RebuildNamedCall g first second left 0 t
       → Step g encoded s (loss_member g lost left) t
   -- damage of one device, where the start is encoded, and the accepted repair

@@ -8,7 +8,7 @@ use Rattle.column.specs.declared.Lost.TheVariants.{One}
 use Rattle.column.specs.Column.{reed_solomon}
 use Rattle.column.specs.Loss.{KnownLoss, overwrite}
 use Rattle.shape.specs.declared.Geometry.{Geometry}
-use Rattle.devices.specs.declared.Naming.{Naming}
+use Rattle.std.specs.Prelude.{Option, Some}
 use Rattle.shape.specs.Layout.{column, lift}
 use Rattle.shape.specs.Refusals.{write_refusal}
 use Rattle.devices.specs.Refusals.{rebuild_refusal}
@@ -30,8 +30,8 @@ write_member len h disk offset new =
       gives = λ k p. choose (eqb (write_refusal h len disk offset (length new)) 0) (sets disk offset new k p) none;
     }
 
--- a call of rebuild that is refused; it named `Loss lost`, or what two codes name, `naming_of first second`
-abbrev pub refused_rebuild : Geometry → Naming → Member
+-- a call of rebuild that is refused; it named `Some lost`, or what two codes name, `naming_of first second`
+abbrev pub refused_rebuild : Geometry → Option Lost → Member
 refused_rebuild h naming = record { runs = rebuilt_by h naming; gives = λ k p. none }
 
 -- a loss, which puts on the devices that it names what a list of bytes holds there, and its rebuild: they are one member
@@ -54,7 +54,7 @@ refused_repair = record { runs = λ s. s; gives = λ k p. none }
 pub data Allowed (g : Geometry) (len : ℕ) (encoded : Type 0) : Member → Type 0 where
   write : (h : Geometry) (disk offset : ℕ) (new : List ℕ) → Bytes new → (write_refusal h len disk offset (length new) ≡ 0 → h ≡ g)
       → Allowed g len encoded (write_member len h disk offset new)
-  refused : (h : Geometry) (naming : Naming) → named_refusal h len naming ≢ 0 → Allowed g len encoded (refused_rebuild h naming)
+  refused : (h : Geometry) (naming : Option Lost) → named_refusal h len naming ≢ 0 → Allowed g len encoded (refused_rebuild h naming)
   loss : (lost : Lost) (junk : List ℕ) → Bytes junk → rebuild_refusal g len lost ≡ 0 → encoded → Allowed g len encoded (loss_member g lost junk)
   damage : (d : Device) (junk : List ℕ) → Bytes junk → KnownLoss g.n (One d) → encoded → Allowed g len encoded (damage_member g d junk)
   refused_repair_lem : Allowed g len encoded refused_repair

@@ -9,16 +9,16 @@ use Prim.Native.Nat.{ℕ}
 use native.Mathlib.Decide.{ℕ_discrete}
 use borrow.Author.Tests.{eq-eqb, ne_eqb}
 use lib.Dec.{eqb}
+use Rattle.std.specs.Prelude.{Option, Some, None}
 use Rattle.base.specs.Refusal.{first_of}
 use Rattle.base.proofs.Choice.{either_comm}
 use Rattle.column.specs.declared.Device as Column
 use Rattle.column.specs.declared.Device.TheVariants.{Data, P, Q}
+use Rattle.column.specs.declared.Lost.{Lost}
 use Rattle.column.specs.declared.Lost.TheVariants.{Two}
 use Rattle.shape.specs.declared.Geometry.{Geometry}
 use Rattle.devices.specs.declared.Named.{Named}
 use Rattle.devices.specs.declared.Named.TheVariants.{Device, Nothing, Meaningless}
-use Rattle.devices.specs.declared.Naming.{Naming}
-use Rattle.devices.specs.declared.Naming.TheVariants.{Loss, Wrong}
 use Rattle.shape.specs.Refusals.{library, refusal1, refusal2, refusal3}
 use Rattle.devices.specs.Refusals.{unknown, same_device, rebuild_refusal}
 use Rattle.devices.specs.Codes.{named_by, loss_of, naming_of, is_none, named_refusal}
@@ -51,7 +51,7 @@ refusal_in_any_order g len d e =
 
 -- What holds of every pair exchanged, and of codes that are wrong both ways, holds of every two codes exchanged, unless one names none: a
 -- second of none means one lost.
-module _ (Same : Naming → Naming → Type 0) (pair : (d e : Column.Device) → Same (Loss (Two d e)) (Loss (Two e d))) (wrong : Same Wrong Wrong) where
+module _ (Same : Option Lost → Option Lost → Type 0) (pair : (d e : Column.Device) → Same (Some (Two d e)) (Some (Two e d))) (wrong : Same None None) where
   losses_exchanged : (first second : Named) → is_none first ≡ false → is_none second ≡ false → Same (loss_of first second) (loss_of second first)
   losses_exchanged (Device d) (Device e) a b = pair d e
   losses_exchanged (Device d) Nothing a b = absurd (true≢false b)

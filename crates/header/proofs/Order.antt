@@ -1,21 +1,22 @@
 -- The job's order of refusals in its steps: the header's, then 1 and 2, then 20, and then the rest.
 -- Assumes nothing.
-use mathlib.Core.Path.{◌≡◌, refl}
+use mathlib.Core.Path.{◌≡◌, refl, sym, ◌∙◌}
 use mathlib.Core.Bool.{true, false, false≢true}
 use mathlib.Core.List.{List, [], ◌∷◌, ◌++◌}
 use Prim.Native.Nat.{ℕ, ◌≤◌}
-use borrow.Author.Tests.{ltb-false}
+use borrow.Author.Tests.{ltb-false, le-ltb}
 use lib.ListN.{length}
 use Rattle.base.specs.Refusal.{Refusal, first_of}
-use Rattle.base.proofs.Refused.{none_applies}
+use Rattle.base.proofs.Refused.{none_applies, first_passed, refused_then}
 use Rattle.shape.specs.declared.Geometry.{Geometry}
 use Rattle.devices.specs.declared.Named.{Named}
 use Rattle.devices.specs.declared.Named.TheVariants.{Device, Nothing, Meaningless}
+use Rattle.shape.specs.Layout.{size}
 use Rattle.shape.specs.Refusals.{library, limits_refusals, refusal3}
 use Rattle.devices.specs.Codes.{named_by, loss_of, named_twice, no_devices}
 use Rattle.header.specs.Fields.{field}
 use Rattle.header.specs.Header.{command_of, geometry_of, first_device, second_device, stripe_of}
-use Rattle.header.specs.Refusals.{refusal4, refusal5, refusal9, refusal20}
+use Rattle.header.specs.Refusals.{job_limit, refusal4, refusal5, refusal9, refusal20, job_refusal}
 use Rattle.header.specs.Steps.{header_refusals, stripe_refusals}
 
 abbrev pub limits_of : List ℕ → List Refusal
@@ -50,6 +51,18 @@ none_twice Nothing b e = refl
 none_twice Meaningless b e = refl
 
 -- what the stripe's refusals give, by what was read of the job
-pub stripe_as : (job : List ℕ) {g : Geometry} {first second : ℕ} {s : List ℕ} → g ≡ geometry_of job → first ≡ field job 10 → second ≡ field job 12 → s ≡ stripe_of job
-    → first_of (stripe_refusals g (command_of job) (named_by first) (named_by second) s) ≡ first_of (limits_of job ++ rest_of job)
-stripe_as job is_g is_first is_second is_s = rw (is_g, is_first, is_second, is_s)
+pub stripe_as : (job : List ℕ) {g : Geometry} {command first second : ℕ} {s : List ℕ} → g ≡ geometry_of job → command ≡ command_of job → first ≡ field job 10
+    → second ≡ field job 12
+    → s ≡ stripe_of job
+    → first_of (stripe_refusals g command (named_by first) (named_by second) s) ≡ first_of (limits_of job ++ rest_of job)
+stripe_as job is_g is_command is_first is_second is_s = rw (is_g, is_command, is_first, is_second, is_s)
+
+-- the stripe's refusals decide where the header and the limits refuse nothing
+pub stripe_then : (job : List ℕ) {k : ℕ} → 0 ≡ first_of (header_refusals job) → 0 ≡ first_of (limits_of job) → size (geometry_of job) ≤ job_limit
+    → k ≡ first_of (limits_of job ++ rest_of job)
+    → k ≡ job_refusal job
+unfolding job_refusal
+stripe_then job header limits fits rest =
+    refused_then (header_refusals job) (behind_header job) header refl refl
+    (refused_then (limits_of job) (from20 job) limits refl refl
+    (rest ∙ first_passed (limits_of job) (rest_of job) refl (sym limits) ∙ sym (simp (le-ltb job_limit (size (geometry_of job)) fits))))

@@ -1,10 +1,10 @@
 -- A job is a header of 14 bytes and a stripe. The header: mark, version, command byte, n, B, and the codes of a first and a second
 -- device. All but the mark and the command are 16-bit fields.
-use Rattle.std.specs.Prelude.{ℕ, ◌≡◌, List, [], ◌∷◌, length, get_or, take, drop}
+use Rattle.std.specs.Prelude.{ℕ, ◌≡◌, List, [], ◌∷◌, length, get_or, take, drop, Option}
+use Rattle.column.specs.declared.Lost.{Lost}
 use Rattle.shape.specs.declared.Geometry.{Geometry}
 use Rattle.shape.specs.Layout.{geometry}
 use Rattle.devices.specs.declared.Named.{Named}
-use Rattle.devices.specs.declared.Naming.{Naming}
 use Rattle.devices.specs.Codes.{named_by, loss_of}
 use Rattle.header.specs.Fields.{field}
 
@@ -29,7 +29,7 @@ first_device job = named_by (field job 10)
 abbrev pub second_device : List ℕ → Named
 second_device job = named_by (field job 12)
 
-abbrev pub loss_named : List ℕ → Naming
+abbrev pub loss_named : List ℕ → Option Lost
 loss_named job = loss_of (first_device job) (second_device job)
 
 abbrev pub stripe_of : List ℕ → List ℕ

@@ -1,4 +1,5 @@
 pub mod Fields
 pub mod Header
 pub mod Refusals
+pub mod Numbers
 pub mod Steps

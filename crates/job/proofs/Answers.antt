@@ -8,8 +8,7 @@ use Prim.Native.Nat.{ℕ, ◌+◌, ◌≤◌}
 use native.Mathlib.Omega.{arith}
 use lib.ListN.{length, take}
 use Rattle.column.specs.declared.Lost.{Lost}
-use Rattle.devices.specs.declared.Naming.{Naming}
-use Rattle.devices.specs.declared.Naming.TheVariants.{Loss, Wrong}
+use Rattle.std.specs.Prelude.{Option, Some, None}
 use Rattle.compare.specs.Compare.{verdicts}
 use Rattle.stripe.specs.Stripe.{encoded, rebuilt, repaired}
 use Rattle.verdict.specs.Summary.{summary}
@@ -38,18 +37,18 @@ module _ (job : List ℕ) (e : job_refusal job ≡ 0) where
   answer_encode is = answer_accepted job e ∙ ap (λ (l : List ℕ). opening 0 ++ l) (body_encode job is)
 
   -- the codes of an accepted rebuild name a loss
-  pub rebuild_loss : command_of job ≡ 2 → (lost : Lost) × (loss_named job ≡ Loss lost)
+  pub rebuild_loss : command_of job ≡ 2 → (lost : Lost) × (loss_named job ≡ Some lost)
   rebuild_loss is = go (loss_named job) (rw is at (accepted job e).named)
     where
-      go : (loss : Naming) → misnamed (geometry_of job) loss ≡ false → (lost : Lost) × (loss ≡ Loss lost)
-      go (Loss lost) m = (lost, refl)
-      go Wrong m = absurd (true≢false m)
+      go : (loss : Option Lost) → misnamed (geometry_of job) loss ≡ false → (lost : Lost) × (loss ≡ Some lost)
+      go (Some lost) m = (lost, refl)
+      go None m = absurd (true≢false m)
 
-  pub answer_rebuild : command_of job ≡ 2 → (lost : Lost) → loss_named job ≡ Loss lost
+  pub answer_rebuild : command_of job ≡ 2 → (lost : Lost) → loss_named job ≡ Some lost
       → answer_to job ≡ opening 0 ++ rebuilt (geometry_of job) lost (stripe_of job)
   answer_rebuild is lost named =
       answer_accepted job e
-      ∙ ap (λ (l : List ℕ). opening 0 ++ l) (body_rebuild job is ∙ ap (λ (loss : Naming). restored (geometry_of job) loss (stripe_of job)) named)
+      ∙ ap (λ (l : List ℕ). opening 0 ++ l) (body_rebuild job is ∙ ap (λ (loss : Option Lost). restored (geometry_of job) loss (stripe_of job)) named)
 
   pub answer_check : command_of job ≡ 3
       → answer_to job

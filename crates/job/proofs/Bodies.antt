@@ -9,8 +9,7 @@ use native.Mathlib.Decide.{ℕ_discrete}
 use lib.ListN.{length, take, drop}
 use Rattle.column.specs.declared.Lost.{Lost}
 use Rattle.shape.specs.declared.Geometry.{Geometry}
-use Rattle.devices.specs.declared.Naming.{Naming}
-use Rattle.devices.specs.declared.Naming.TheVariants.{Loss, Wrong}
+use Rattle.std.specs.Prelude.{Option, Some, None}
 use Rattle.column.specs.Column.{reed_solomon, encode_column, rebuild_column}
 use Rattle.compare.specs.Compare.{verdicts}
 use Rattle.stripe.specs.Stripe.{encoded, rebuilt, repaired}
@@ -29,9 +28,9 @@ use Rattle.job.specs.Answer.{restored, body}
 use Rattle.header.proofs.Accepted.{Accepted}
 use Rattle.report.proofs.Laws.{length_report}
 
-length_restored : (g : Geometry) (loss : Naming) (s : List ℕ) → length (restored g loss s) ≡ length s
-length_restored g (Loss lost) s = length_lift g (λ i c. rebuild_column reed_solomon g.n lost c) s
-length_restored g Wrong s = refl
+length_restored : (g : Geometry) (loss : Option Lost) (s : List ℕ) → length (restored g loss s) ≡ length s
+length_restored g (Some lost) s = length_lift g (λ i c. rebuild_column reed_solomon g.n lost c) s
+length_restored g None s = refl
 
 module _ (job : List ℕ) where
   abbrev g : Geometry
@@ -88,10 +87,10 @@ module _ (job : List ℕ) where
     unfolding after_rebuild
     rebuild_done e = go (loss_named job) (rw e at ok.named) ok.apart ∙ sym (body_rebuild e)
       where
-        go : (loss : Naming) → misnamed g loss ≡ false → named_twice loss ≡ false → rebuilt_by g loss s ≡ restored g loss s
-        go (Loss lost) m t =
+        go : (loss : Option Lost) → misnamed g loss ≡ false → named_twice loss ≡ false → rebuilt_by g loss s ≡ restored g loss s
+        go (Some lost) m t =
             left_done (rebuild_refusal g (length s) lost) (rebuilt g lost s) s (loss_accepted lost m t)
-        go Wrong m t = refl
+        go None m t = refl
 
     pub repair_done : command_of job ≡ 4 → after_repair g s ≡ body job
     unfolding after_repair

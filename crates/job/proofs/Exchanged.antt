@@ -12,8 +12,8 @@ use Rattle.base.proofs.Choice.{either_comm}
 use Rattle.column.specs.declared.Device.{Device}
 use Rattle.column.specs.declared.Lost.TheVariants.{Two}
 use Rattle.shape.specs.declared.Geometry.{Geometry}
-use Rattle.devices.specs.declared.Naming.{Naming}
-use Rattle.devices.specs.declared.Naming.TheVariants.{Loss, Wrong}
+use Rattle.std.specs.Prelude.{Option, Some, None}
+use Rattle.column.specs.declared.Lost.{Lost}
 use Rattle.shape.specs.Layout.{geometry}
 use Rattle.devices.specs.Refusals.{unknown}
 use Rattle.devices.specs.Codes.{naming_of, misnamed, named_twice}
@@ -39,7 +39,7 @@ module _ (job other : List ℕ) (ex : Exchanged job other) (rebuild : command_of
   other_rebuild = sym (byte 5 (omega arith)) ∙ rebuild
 
   -- what holds of every pair of names exchanged, and of codes that are wrong both ways
-  names : (Same : Naming → Naming → Type 0) → ((d e : Device) → Same (Loss (Two d e)) (Loss (Two e d))) → Same Wrong Wrong → Same (loss_named job) (loss_named other)
+  names : (Same : Option Lost → Option Lost → Type 0) → ((d e : Device) → Same (Some (Two d e)) (Some (Two e d))) → Same None None → Same (loss_named job) (loss_named other)
   names Same pair wrong =
       subst (Same (loss_named job)) (ap₂ naming_of ex.second ex.first) (codes_exchanged Same pair wrong (field job 10) (field job 12) some_first some_second)
 

@@ -2,8 +2,8 @@
 -- repair, or the summary and the verdicts for a check.
 use Rattle.std.specs.Prelude.{ℕ, ◌≡◌, List, [], ◌∷◌, ◌++◌, eqb, leb, length, drop}
 use Rattle.shape.specs.declared.Geometry.{Geometry}
-use Rattle.devices.specs.declared.Naming.{Naming}
-use Rattle.devices.specs.declared.Naming.TheVariants.{Loss, Wrong}
+use Rattle.std.specs.Prelude.{Option, Some, None}
+use Rattle.column.specs.declared.Lost.{Lost}
 use Rattle.base.specs.Choice.{choose}
 use Rattle.compare.specs.Compare.{verdicts}
 use Rattle.stripe.specs.Stripe.{encoded, rebuilt, repaired}
@@ -18,12 +18,12 @@ abbrev pub opening : ℕ → List ℕ
 opening result = mark ++ (big_endian 1 ++ (result ∷ []))
 
 -- a rebuilt stripe; codes that name no loss are refused before it
-abbrev pub restored : Geometry → Naming → List ℕ → List ℕ
-restored g (Loss lost) s = rebuilt g lost s
-restored g Wrong s = s
+abbrev pub restored : Geometry → Option Lost → List ℕ → List ℕ
+restored g (Some lost) s = rebuilt g lost s
+restored g None s = s
 
 -- what follows the six bytes where the job is not refused
-abbrev pub outcome : ℕ → Geometry → Naming → List ℕ → List ℕ
+abbrev pub outcome : ℕ → Geometry → Option Lost → List ℕ → List ℕ
 outcome command g loss s =
     choose (eqb command 1) (encoded g s)
     (choose (eqb command 2) (restored g loss s) (choose (eqb command 3) (report (verdicts g s)) (repaired g s)))

@@ -13,6 +13,7 @@ use lib.Dec.{eqb}
 use Rattle.base.specs.Choice.{choose}
 use Rattle.gf256.specs.Field.{sum, power}
 use Rattle.gf256.proofs.Laws.{sum_comm, sum_zero, zero_product, product_right}
+use Rattle.std.specs.Prelude.{Result, Ok, Err}
 use Rattle.column.specs.declared.Device.{Device}
 use Rattle.column.specs.declared.Device.TheVariants.{Data, P, Q}
 use Rattle.column.specs.declared.Lost.{Lost}
@@ -24,8 +25,6 @@ use Rattle.column.proofs.Weighted.{Additive, weighted, weighted_put, weighted_ou
 use Rattle.shape.specs.declared.Geometry.{Geometry}
 use Rattle.devices.specs.Refusals.{rebuild_refusal}
 use Rattle.losses.specs.declared.Plan.{Plan}
-use Rattle.plans.specs.declared.Asked.{Asked}
-use Rattle.plans.specs.declared.Asked.TheVariants.{Refused, Rebuild}
 use Rattle.losses.specs.Losses.{without, by_p, solved, restored_by, KnownPlan}
 use Rattle.plans.specs.Plans.{plan_of, asked_of, with_data}
 
@@ -89,19 +88,19 @@ plan_known n (Two Q Q) h = tt
 
 -- ---- what a rebuild is told
 module _ (g : Geometry) (len : ℕ) (lost : Lost) where
-  abbrev told : Bool → Asked
-  told b = choose b (Rebuild (plan_of g.n lost)) (Refused (rebuild_refusal g len lost))
+  abbrev told : Bool → Result Plan ℕ
+  told b = choose b (Ok (plan_of g.n lost)) (Err (rebuild_refusal g len lost))
 
-  pub asked_refused : {r : ℕ} → asked_of g len lost ≡ Refused r → (r ≡ rebuild_refusal g len lost) × (r ≢ 0)
+  pub asked_refused : {r : ℕ} → asked_of g len lost ≡ Err r → (r ≡ rebuild_refusal g len lost) × (r ≢ 0)
   asked_refused {r} = go (eqb (rebuild_refusal g len lost) 0) refl
     where
-      go : (b : Bool) → eqb (rebuild_refusal g len lost) 0 ≡ b → told b ≡ Refused r → (r ≡ rebuild_refusal g len lost) × (r ≢ 0)
+      go : (b : Bool) → eqb (rebuild_refusal g len lost) 0 ≡ b → told b ≡ Err r → (r ≡ rebuild_refusal g len lost) × (r ≢ 0)
       go true t e = absurd (suc-ne-zero 0 cc)
       go false t e = let same : r ≡ rebuild_refusal g len lost = cc in (same, λ z. eqb-false (rebuild_refusal g len lost) 0 t (sym same ∙ z))
 
-  pub asked_plan : {plan : Plan} → asked_of g len lost ≡ Rebuild plan → (rebuild_refusal g len lost ≡ 0) × (plan ≡ plan_of g.n lost)
+  pub asked_plan : {plan : Plan} → asked_of g len lost ≡ Ok plan → (rebuild_refusal g len lost ≡ 0) × (plan ≡ plan_of g.n lost)
   asked_plan {plan} = go (eqb (rebuild_refusal g len lost) 0) refl
     where
-      go : (b : Bool) → eqb (rebuild_refusal g len lost) 0 ≡ b → told b ≡ Rebuild plan → (rebuild_refusal g len lost ≡ 0) × (plan ≡ plan_of g.n lost)
+      go : (b : Bool) → eqb (rebuild_refusal g len lost) 0 ≡ b → told b ≡ Ok plan → (rebuild_refusal g len lost ≡ 0) × (plan ≡ plan_of g.n lost)
       go true t e = (eqb-true (rebuild_refusal g len lost) 0 t, cc)
       go false t e = absurd (suc-ne-zero 0 cc)

@@ -1,5 +1,5 @@
 -- The plan of a loss: which roles are restored, and by which rule. Equations are numbered as in the paper.
-use Rattle.std.specs.Prelude.{ℕ, ◌+◌, true, false, eqb}
+use Rattle.std.specs.Prelude.{ℕ, ◌+◌, true, false, eqb, Result, Ok, Err}
 use Rattle.base.specs.Choice.{choose}
 use Rattle.gf256.specs.Field.{element, power}
 use Rattle.column.specs.declared.Device.{Device}
@@ -13,8 +13,6 @@ use Rattle.losses.specs.declared.Rule.{Rule}
 use Rattle.losses.specs.declared.Rule.TheVariants.{Mixed, Carried}
 use Rattle.losses.specs.declared.Plan.{Plan}
 use Rattle.losses.specs.declared.Plan.TheVariants.{ByP, FromData, ByBoth}
-use Rattle.plans.specs.declared.Asked.{Asked}
-use Rattle.plans.specs.declared.Asked.TheVariants.{Refused, Rebuild}
 
 -- equations 17 to 20
 abbrev pub mixed : ℕ → ℕ → Rule
@@ -42,6 +40,6 @@ plan_of n (Two Q (Data x)) = with_data n x Q
 plan_of n (Two Q P) = FromData true
 plan_of n (Two Q Q) = alone n Q
 
--- what a rebuild asks for: its refusal, or else the plan of its loss
-abbrev pub asked_of : Geometry → ℕ → Lost → Asked
-asked_of g len lost = choose (eqb (rebuild_refusal g len lost) 0) (Rebuild (plan_of g.n lost)) (Refused (rebuild_refusal g len lost))
+-- what a rebuild asks for: its refusal's number, or else the plan of its loss
+abbrev pub asked_of : Geometry → ℕ → Lost → Result Plan ℕ
+asked_of g len lost = choose (eqb (rebuild_refusal g len lost) 0) (Ok (plan_of g.n lost)) (Err (rebuild_refusal g len lost))

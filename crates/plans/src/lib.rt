@@ -6,31 +6,22 @@ ghost use Rattle.std.specs.Prelude.{◌≡◌, ◌≢◌, ◌≤◌, ◌<◌};
 ghost use Rattle.gf256.specs.Field.{power};
 ghost use Rattle.column.specs.Column.{over_power};
 ghost use Rattle.column.specs.Loss.{KnownLoss};
+ghost use Rattle.shape.specs.Number.{numbered};
 ghost use Rattle.plans.specs.Plans.{alone, with_data, plan_of, asked_of, mixed};
 
 use column::{Device, Lost};
 use gf256::Element;
 use losses::{Plan, Rule};
-use shape::Geometry;
-
-// A plan, or the refusal of a rebuild that has none.
-#[derive(Clone, Copy)]
-pub enum Asked {
-    Refused(u8),
-    Rebuild(Plan),
-}
+use shape::{Geometry, Refusal};
 
 // What a rebuild asks for: its refusal, or else the plan of its loss.
-pub fn plan_of(g: Geometry, len: usize, lost: Lost) -> Asked
-    ensures { result ≡ asked_of g len lost }
+pub fn plan_of(g: Geometry, len: usize, lost: Lost) -> Result<Plan, Refusal>
+    ensures { numbered result ≡ asked_of g len lost }
 {
-    let refused = devices::rebuild_refusal(g, len, lost);
-    if refused != 0 {
-        return Asked::Refused(refused);
-    }
+    devices::rebuild_refusal(g, len, lost)?;
     match lost {
-        Lost::One(device) => Asked::Rebuild(alone(g.n, device)),
-        Lost::Two(first, second) => Asked::Rebuild(together(g.n, first, second)),
+        Lost::One(device) => Ok(alone(g.n, device)),
+        Lost::Two(first, second) => Ok(together(g.n, first, second)),
     }
 }
 
@@ -50,18 +41,10 @@ fn together(n: usize, first: Device, second: Device) -> Plan
     requires { (n ≤ 255) × KnownLoss n (Lost.Two first second) }
     ensures { result ≡ plan_of n (Lost.Two first second) }
 {
-    match first {
-        Device::Data(x) => with_data(n, x, second),
-        Device::P => match second {
-            Device::Data(x) => with_data(n, x, Device::P),
-            Device::P => alone(n, Device::P),
-            Device::Q => Plan::FromData(true),
-        },
-        Device::Q => match second {
-            Device::Data(x) => with_data(n, x, Device::Q),
-            Device::P => Plan::FromData(true),
-            Device::Q => alone(n, Device::Q),
-        },
+    match (first, second) {
+        (Device::Data(x), other) => with_data(n, x, other),
+        (other, Device::Data(x)) => with_data(n, x, other),
+        _ => Plan::FromData(true),
     }
 }
 

@@ -8,7 +8,6 @@ ghost use Rattle.header.specs.Fields.{fields};
 ghost use Rattle.report.specs.Report.{report, ReportCall};
 
 use shape::Geometry;
-use stripe::Checked;
 
 // Checks a stripe: fills the room with the verdicts and the output with the report. Both stay as they
 // are where the check is refused, and where the report has another length than the output.
@@ -29,7 +28,7 @@ fn check_in(g: Geometry, stripe: &[u8], room: &mut [u16], out: &mut [u8])
     requires { (check_refusal g (length stripe.now) (length room.old) ≡ 0) × (length out.old ≡ 2 + 2 * g.b) }
     ensures { (room.new ≡ verdicts g stripe.now) × (out.new ≡ report (verdicts g stripe.now)) }
 {
-    let Checked::Summary(summary) = stripe::check(g, stripe, room) else {
+    let Ok(summary) = stripe::check(g, stripe, room) else {
         return;
     };
     out[..2].copy_from_slice(&header::big_endian(summary));
@@ -40,11 +39,9 @@ fn put_all(values: &[u16], out: &mut [u8])
     requires { length out.old ≡ 2 * length values.now }
     ensures { out.new ≡ fields values.now }
 {
-    let mut i = 0;
-    while i < values.len() {
-        let pair = header::big_endian(values[i]);
-        out[2 * i] = pair[0];
-        out[2 * i + 1] = pair[1];
-        i += 1;
+    for (i, value) in values.iter().enumerate() {
+        let [high, low] = header::big_endian(*value);
+        out[2 * i] = high;
+        out[2 * i + 1] = low;
     }
 }

@@ -17,3 +17,8 @@ number_of Unclear = 9
 abbrev pub number : Result Unit Refusal → ℕ
 number (Ok done) = 0
 number (Err refusal) = number_of refusal
+
+-- a result with its refusal's number in place of its refusal
+abbrev pub numbered : {T : Type 0} → Result T Refusal → Result T ℕ
+numbered (Ok value) = Ok value
+numbered (Err refusal) = Err (number_of refusal)

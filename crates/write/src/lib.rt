@@ -3,8 +3,8 @@
 
 ghost use Rattle.std.specs.Prelude.{◌≡◌, ◌+◌, ◌<◌, ◌≤◌, length, get_or};
 ghost use Rattle.gf256.specs.Field.{power};
-ghost use Rattle.chunk.specs.Chunk.{width};
 ghost use Rattle.column.specs.Column.{reed_solomon, write_column};
+ghost use Rattle.shape.specs.Number.{number};
 ghost use Rattle.shape.specs.Refusals.{WellShaped};
 ghost use Rattle.shape.specs.Columns.{ColumnsMapped};
 ghost use Rattle.stretch.specs.Stretch.{Has};
@@ -12,19 +12,22 @@ ghost use Rattle.write.specs.Write.{WriteCall};
 
 use chunk::{Sums, WIDTH};
 use gf256::Element;
-use shape::Geometry;
+use shape::{Geometry, Refusal};
 
 // Sets a stretch of one data disk, and adds what changed to P and Q, also where the stripe is not
 // encoded.
-pub fn write(g: Geometry, stripe: &mut [u8], disk: usize, offset: usize, new: &[u8]) -> u8
-    ensures { WriteCall g disk offset new.now stripe.old result stripe.new }
+pub fn write(
+    g: Geometry,
+    stripe: &mut [u8],
+    disk: usize,
+    offset: usize,
+    new: &[u8],
+) -> Result<(), Refusal>
+    ensures { WriteCall g disk offset new.now stripe.old (number result) stripe.new }
 {
-    let refused = shape::write_refusal(g, stripe.len(), disk, offset, new.len());
-    if refused != 0 {
-        return refused;
-    }
+    shape::write_refusal(g, stripe.len(), disk, offset, new.len())?;
     write_all(g, stripe, disk, offset, new);
-    0
+    Ok(())
 }
 
 fn write_all(g: Geometry, stripe: &mut [u8], disk: usize, offset: usize, new: &[u8])
@@ -32,44 +35,30 @@ fn write_all(g: Geometry, stripe: &mut [u8], disk: usize, offset: usize, new: &[
     ensures { ColumnsMapped g offset (length new.now) (λ j col. write_column reed_solomon g.n disk (get_or new.now j 0) col) stripe.old stripe.new }
 {
     let c = Element(2).power(disk as u64);
-    let mut j = 0;
-    while WIDTH <= new.len() - j {
-        write_chunk(g, stripe, disk, offset + j, c, &new[j..j + WIDTH]);
-        j += WIDTH;
+    let chunks = new.len() / WIDTH;
+    for k in 0..chunks {
+        let j = WIDTH * k;
+        write_columns(g, stripe, disk, offset + j, c, &new[j..j + WIDTH]);
     }
+    let j = WIDTH * chunks;
     if j < new.len() {
-        write_part(g, stripe, disk, offset + j, c, &new[j..]);
+        write_columns(g, stripe, disk, offset + j, c, &new[j..]);
     }
 }
 
-// The columns of one chunk; c is the disk's coefficient. P and Q after the write are there before a
-// byte is stored.
-fn write_chunk(g: Geometry, stripe: &mut [u8], disk: usize, i: usize, c: Element, new: &[u8])
-    requires { Has g stripe.old i (length new.now) × (disk < g.n) × (c.0 ≡ power 2 disk) × (length new.now ≡ width) }
-    ensures { ColumnsMapped g i (length new.now) (λ j col. write_column reed_solomon g.n disk (get_or new.now j 0) col) stripe.old stripe.new }
-{
-    // The columns are there. Tested once here, they cost no test in the six calls below.
-    if !stretch::has_columns(g, stripe.len(), i, WIDTH) {
-        return;
-    }
-    let old = stretch::load(g, stripe, disk, i, WIDTH);
-    let p = stretch::load(g, stripe, g.n, i, WIDTH);
-    let q = stretch::load(g, stripe, g.n + 1, i, WIDTH);
-    let new = chunk::load(new);
-    let after = change::changed(c, old, new, Sums { p, q });
-    let p = after.p;
-    let q = after.q;
-    stretch::set(g, stripe, g.n + 1, i, WIDTH, q);
-    stretch::set(g, stripe, g.n, i, WIDTH, p);
-    stretch::set(g, stripe, disk, i, WIDTH, new);
-}
-
-// The same for less than a chunk.
-fn write_part(g: Geometry, stripe: &mut [u8], disk: usize, i: usize, c: Element, new: &[u8])
+// The columns of a stretch that a chunk can hold; c is the disk's coefficient. P and Q after the write are
+// there before a byte is stored. It is written into its two calls, so that the compiler knows the width of a
+// whole chunk.
+#[inline(always)]
+fn write_columns(g: Geometry, stripe: &mut [u8], disk: usize, i: usize, c: Element, new: &[u8])
     requires { Has g stripe.old i (length new.now) × (disk < g.n) × (c.0 ≡ power 2 disk) }
     ensures { ColumnsMapped g i (length new.now) (λ j col. write_column reed_solomon g.n disk (get_or new.now j 0) col) stripe.old stripe.new }
 {
+    // The columns are there. Tested once here, they cost no test in the six calls below.
     let w = new.len();
+    if !stretch::has_columns(g, stripe.len(), i, w) {
+        return;
+    }
     let old = stretch::load(g, stripe, disk, i, w);
     let p = stretch::load(g, stripe, g.n, i, w);
     let q = stretch::load(g, stripe, g.n + 1, i, w);

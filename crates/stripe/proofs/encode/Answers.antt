@@ -1,28 +1,29 @@
 -- `stripe::encode` meets its contract: its refusal, then P and Q from the data.
-use mathlib.Core.Path.{sym, ◌∙◌}
-use mathlib.Core.Bool.{true}
+use Rattle.std.proofs.Common.{true, refl, sym, ◌∙◌}
+use Rattle.std.proofs.lemmas.Result.{err_from_is_err_and}
 use Rattle.base.proofs.Refused.{leaves_alone, leaves_done}
 use Rattle.losses.specs.declared.Plan.TheVariants.{FromData}
+use Rattle.shape.proofs.Numbers.{refusal_number}
 use Rattle.shape.proofs.Refused.{well_shaped}
 use Rattle.restore.proofs.Laws.{restored_is}
 use Rattle.stripe.specs.Stripe.{encoded}
 use Rattle.stripe.specs.Calls.{after_encode}
 use Rattle.stripe.proofs.encode.Goals as goal
 
-pub returns-then-refused-ne0 : goal.returns-then-refused-ne0
+pub returns-in_err-encode_refusal : goal.returns-in_err-encode_refusal
 unfolding after_encode
-returns-then-refused-ne0 c =
-    let a = c.args in
-    let refused = c.encode_refusal-refused.ensures in
-    record { result = refused; stripe = leaves_alone (encoded a.g a.stripe.now) a.stripe.now refused c.if-refused-ne0.true }
+returns-in_err-encode_refusal c =
+    let s = c.args.stripe.now in
+    let refused = c.in_err-encode_refusal.ensures in
+    let p = err_from_is_err_and c.from_residual.result c.from_residual.ensures.1 in
+    rw (p.1, p.2) record { result = refused; stripe = leaves_alone (encoded c.args.g s) s refused (refusal_number c.in_err-encode_refusal.field-0.0) }
 
 pub returns : goal.returns
 unfolding after_encode
 returns c =
-    let a = c.args in
-    let refused = c.encode_refusal-refused.ensures in
-    let done = c.if-refused-ne0.false in
+    let s = c.args.stripe.now in
+    let done = c.in_ok-encode_refusal.ensures in
     record {
-      result = sym done ∙ refused;
-      stripe = leaves_done (encoded a.g a.stripe.now) a.stripe.now refused done (c.restore.ensures ∙ restored_is a.g (FromData true) a.stripe.now (let a = c.args in well_shaped a.g a.stripe.now (sym c.encode_refusal-refused.ensures ∙ c.if-refused-ne0.false)) tt);
+      result = done;
+      stripe = leaves_done (encoded c.args.g s) s done refl (c.restore.ensures ∙ restored_is c.args.g (FromData true) s (well_shaped c.args.g s (sym done)) tt);
     }

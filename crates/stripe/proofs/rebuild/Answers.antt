@@ -1,6 +1,6 @@
 -- `stripe::rebuild` meets its contract: its refusal, or the plan of the loss, which is the table's row.
-use mathlib.Core.Path.{refl, sym, ap, ◌∙◌}
-use lib.ListN.{length}
+use Rattle.std.proofs.Common.{length, refl, sym, ap, ◌∙◌}
+use Rattle.std.proofs.lemmas.Result.{err_from_is_err_and}
 use Rattle.base.proofs.Refused.{leaves_alone, leaves_done}
 use Rattle.losses.specs.declared.Plan.{Plan}
 use Rattle.plans.specs.Plans.{plan_of}
@@ -14,19 +14,20 @@ use Rattle.stripe.specs.Stripe.{rebuilt}
 use Rattle.stripe.specs.Calls.{after_rebuild}
 use Rattle.stripe.proofs.rebuild.Goals as goal
 
-pub returns-in-Refused : goal.returns-in-Refused
+pub returns-in_err-plan : goal.returns-in_err-plan
 unfolding after_rebuild
-returns-in-Refused c =
+returns-in_err-plan c =
     let a = c.args in
-    let told = asked_refused a.g (length a.stripe.now) a.lost (sym c.plan_of.ensures ∙ c.in-Refused.is) in
-    record { result = told.0; stripe = leaves_alone (rebuilt a.g a.lost a.stripe.now) a.stripe.now told.0 told.1 }
+    let told = asked_refused a.g (length a.stripe.now) a.lost (sym c.in_err-plan.ensures) in
+    let p = err_from_is_err_and c.from_residual.result c.from_residual.ensures.1 in
+    rw (p.1, p.2) record { result = told.0; stripe = leaves_alone (rebuilt a.g a.lost a.stripe.now) a.stripe.now told.0 told.1 }
 
-pub returns-in-Rebuild : goal.returns-in-Rebuild
+pub returns : goal.returns
 unfolding after_rebuild
-returns-in-Rebuild c =
+returns c =
     let a = c.args in
     let s = a.stripe.now in
-    let told = asked_plan a.g (length s) a.lost (sym c.plan_of.ensures ∙ c.in-Rebuild.is) in
+    let told = asked_plan a.g (length s) a.lost (sym c.in_ok-plan.ensures) in
     let accepted = rebuild_accepted a.g (length s) a.lost told.0 in
     record {
       result = sym told.0;

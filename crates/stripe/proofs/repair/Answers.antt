@@ -1,24 +1,28 @@
 -- `stripe::repair` meets its contract, by the tests that it makes.
-use mathlib.Core.Path.{sym, ◌∙◌}
+use Rattle.std.proofs.Common.{refl, sym, ◌∙◌}
+use Rattle.std.proofs.lemmas.Result.{err_from_is_err_and}
+use Rattle.shape.proofs.Numbers.{refusal_number}
 use Rattle.stripe.proofs.Repairs.{shape_refuses, summary_refuses, named_rebuilds, none_stays}
 use Rattle.stripe.proofs.repair.Goals as goal
 
-pub returns-then-refused-ne0 : goal.returns-then-refused-ne0
-returns-then-refused-ne0 c =
+pub returns-in_err-encode_refusal : goal.returns-in_err-encode_refusal
+returns-in_err-encode_refusal c =
     let a = c.args in
-    shape_refuses a.g a.stripe.now c.encode_refusal-refused.ensures c.if-refused-ne0.true
+    let p = err_from_is_err_and c.from_residual.result c.from_residual.ensures.1 in
+    rw (p.1, p.2) (shape_refuses a.g a.stripe.now c.in_err-encode_refusal.ensures (refusal_number c.in_err-encode_refusal.field-0.0))
 
-pub returns-then-unclear-ne0 : goal.returns-then-unclear-ne0
-returns-then-unclear-ne0 c =
+pub returns-in_err-summary_refusal : goal.returns-in_err-summary_refusal
+returns-in_err-summary_refusal c =
     let a = c.args in
-    summary_refuses a.g a.stripe.now c.encode_refusal-refused.ensures c.if-refused-ne0.false c.summary_of-summary.ensures c.summary_refusal-unclear.ensures c.if-unclear-ne0.true
+    let p = err_from_is_err_and c.from_residual-in_err-summary_refusal.result c.from_residual-in_err-summary_refusal.ensures.1 in
+    rw (p.1, p.2) (summary_refuses a.g a.stripe.now c.in_ok-encode_refusal.ensures refl c.summary_of-summary.ensures c.in_err-summary_refusal.ensures (refusal_number c.in_err-summary_refusal.field-0.0))
 
 pub returns-in-Some : goal.returns-in-Some
 returns-in-Some c =
     let a = c.args in
-    named_rebuilds a.g a.stripe.now c.encode_refusal-refused.ensures c.if-refused-ne0.false c.summary_of-summary.ensures c.summary_refusal-unclear.ensures c.if-unclear-ne0.false (sym c.faulty_device.ensures ∙ c.in-Some.is) c.rebuild.ensures
+    named_rebuilds a.g a.stripe.now c.in_ok-encode_refusal.ensures refl c.summary_of-summary.ensures c.in_ok-summary_refusal.ensures refl (sym c.faulty_device.ensures ∙ c.in-Some.is) c.rebuild.ensures
 
 pub returns-in-None : goal.returns-in-None
 returns-in-None c =
     let a = c.args in
-    none_stays a.g a.stripe.now c.encode_refusal-refused.ensures c.if-refused-ne0.false c.summary_of-summary.ensures c.summary_refusal-unclear.ensures c.if-unclear-ne0.false (sym c.faulty_device.ensures ∙ c.in-None.is)
+    none_stays a.g a.stripe.now c.in_ok-encode_refusal.ensures refl c.summary_of-summary.ensures c.in_ok-summary_refusal.ensures refl (sym c.faulty_device.ensures ∙ c.in-None.is)
