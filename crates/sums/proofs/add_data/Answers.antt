@@ -1,0 +1,14 @@
+-- `sums::add_data` meets its contract: the highest disk, and all disks below it.
+use borrow.Author.Rules.{elem_Fits}
+use mathlib.Core.Path.{sym, ◌∙◌}
+use mir.Syntax.{w8}
+use Rattle.stretch.proofs.Laws.{zeros}
+use Rattle.sums.proofs.Runs.{all_added}
+use Rattle.sums.proofs.add_data.Goals as goal
+
+pub returns : goal.returns
+returns c =
+    let d = c.load-d in
+    let first = c.add_disk.ensures in
+    let pre = c.requires in
+    all_added d.result pre.0 d.ensures (λ j. (elem_Fits w8 w8 d.result d.type_inv.0 j d.type_inv.1.1 tt).fits) (rw (pre.1 ∙ sym zeros) at first.0) (rw (pre.2 ∙ sym zeros) at first.1) c.add_pairs.ensures
