@@ -1,7 +1,7 @@
 -- What a plan makes of a stripe that has its roles, column after column, and encode as a rebuild of both parities.
 -- Assumes nothing.
 use mathlib.Core.Path.{◌≡◌, sym, ap₂, ◌∙◌}
-use Prim.Native.Nat.{ℕ, ◌+◌, ◌-◌, ◌≤◌, min}
+use Prim.Native.Nat.{ℕ, ◌+◌, ◌-◌, ◌≤◌, ◌<◌, min}
 use native.Mathlib.Omega.{arith}
 use mathlib.Core.List.{List}
 use Rattle.gf256.specs.Field.{element, sum}
@@ -17,44 +17,42 @@ use Rattle.shape.specs.Layout.{lift}
 use Rattle.shape.specs.Refusals.{WellShaped}
 use Rattle.shape.specs.Columns.{ColumnsMapped}
 use Rattle.shape.proofs.Accepts.{shape_accepts}
-use Rattle.shape.proofs.Columns.{shaped_same, columns_none, columns_count, columns_again, columns_all}
+use Rattle.shape.proofs.Columns.{columns_none, columns_count, columns_again, columns_all}
 use Rattle.chunk.specs.Chunk.{width}
 use Rattle.stretch.specs.Stretch.{Has}
+use Rattle.sums.specs.Strip.{strip, HasStrip}
 use Rattle.parts.proofs.Laws.{known_true}
 use Rattle.restore.specs.Restore.{restored}
 
 pub restored_is : (g : Geometry) (plan : Plan) (s : List ℕ) → WellShaped g s → KnownPlan g.n plan → restored g plan s ≡ lift g (λ i c. restored_by g.n plan c) s
 restored_is g plan s shaped h = rw (shape_accepts g s shaped, known_true g.n plan h)
 
--- the first `done` columns are restored: what each loop keeps
+-- the columns of a chunk that a step restores
+pub chunk_has : {g : Geometry} {s : List ℕ} {i : ℕ} → WellShaped g s → i + width ≤ g.b → Has g s i width
+chunk_has shaped fits = record { shaped = shaped; fits = fits; held = omega arith }
+
+pub strip_has : {g : Geometry} {s : List ℕ} {i : ℕ} → WellShaped g s → i + strip ≤ g.b → HasStrip g s i
+strip_has shaped fits = record { shaped = shaped; fits = fits }
+
+-- the columns below `done` are restored: what the loop keeps, whose last step may pass the end
 pub record Begun (g : Geometry) (plan : Plan) (done : ℕ) (s t : List ℕ) : Type 0 where
-  pub within : done ≤ g.b
-  pub columns : ColumnsMapped g 0 done (λ j c. restored_by g.n plan c) s t
+  pub columns : ColumnsMapped g 0 (min done g.b) (λ j c. restored_by g.n plan c) s t
 
 module _ {g : Geometry} {plan : Plan} {s : List ℕ} where
   pub begun_none : Begun g plan 0 s s
-  begun_none = record { within = omega arith; columns = columns_none }
-
-  -- the next chunk lies within the stripe
-  pub begun_chunk : {done i : ℕ} {t : List ℕ} → WellShaped g s → width ≤ g.b → i ≡ min done (g.b - width) → Begun g plan done s t → Has g t i width
-  begun_chunk shaped fits next begun =
-      record { shaped = shaped_same shaped begun.columns.kept; fits = omega (arith, fits, next); held = omega arith }
+  begun_none = record { columns = columns_count (omega arith) columns_none }
 
   -- w columns more, of which the first may have been restored before
-  pub begun_next : {w done i : ℕ} {t u : List ℕ} → w ≤ g.b → i ≡ min done (g.b - w) → Begun g plan done s t
+  pub begun_next : {w done i : ℕ} {t u : List ℕ} → w ≤ g.b → done < g.b → i ≡ min done (g.b - w) → Begun g plan done s t
       → ColumnsMapped g i w (λ j c. restored_by g.n plan c) t u
-      → Begun g plan (i + w) s u
-  begun_next fits next begun step =
-      record {
-        within = omega (arith, fits, next);
-        columns =
-            columns_again (omega arith) (omega (arith, next)) (omega (arith, fits, next, begun.within)) (omega (arith, fits, next)) (restored_again g.n plan) begun.columns
-            step;
-      }
+      → Begun g plan (done + w) s u
+  begun_next {w} {done} {i} {t} {u} fits left next begun step =
+      let more : ColumnsMapped g 0 (i + w) (λ j c. restored_by g.n plan c) s u = columns_again (omega arith) (omega (arith, next)) (omega (arith, fits, left, next)) (omega (arith, fits, next)) (restored_again g.n plan) begun.columns step in
+      record { columns = columns_count (omega (arith, fits, left, next)) more }
 
   pub begun_all : {done : ℕ} {t : List ℕ} → WellShaped g s → g.b ≤ done → Begun g plan done s t
       → t ≡ lift g (λ i c. restored_by g.n plan c) s
-  begun_all shaped over begun = columns_all shaped (columns_count (omega (arith, over, begun.within)) begun.columns)
+  begun_all shaped over begun = columns_all shaped (columns_count (omega (arith, over)) begun.columns)
 
 -- encode is a rebuild of both parities
 pub encode_solved : (n : ℕ) (c : Column) → solved n n (n + 1) (Carried (element 0)) c ≡ encode_column reed_solomon n c

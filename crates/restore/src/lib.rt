@@ -2,9 +2,11 @@
 // columns are worked on in chunks.
 #![tactic(auto)]
 
-ghost use Rattle.std.specs.Prelude.{◌≡◌, ◌+◌, ◌≤◌, ◌<◌};
+ghost use Rattle.std.specs.Prelude.{◌≡◌, ℕ, ◌+◌, ◌≤◌, ◌<◌};
+ghost use Rattle.std.proofs.Common.{rules};
 ghost use Rattle.column.specs.Column.{encode_column, reed_solomon};
 ghost use Rattle.chunk.specs.Chunk.{width};
+ghost use Rattle.losses.specs.declared.Plan.{Plan};
 ghost use Rattle.losses.specs.Losses.{without, restored_by, solved, KnownPlan};
 ghost use Rattle.shape.specs.Layout.{lift};
 ghost use Rattle.shape.specs.Refusals.{WellShaped};
@@ -49,7 +51,7 @@ fn restore_known(g: Geometry, stripe: &mut [u8], plan: Plan)
         }
         Plan::ByBoth(x, y, rule) => {
             if sums::in_strips(g) {
-                restore_strips(g, stripe, x, y, rule);
+                restore_by(g, stripe, StripByBoth { x, y, rule });
             } else {
                 restore_columns(g, stripe, plan);
             }
@@ -67,65 +69,22 @@ fn restore_parities(g: Geometry, stripe: &mut [u8])
         return;
     }
     if sums::in_strips(g) {
-        restore_strips(g, stripe, g.n, g.n + 1, Rule::Carried(Element(0)));
+        let rule = Rule::Carried(Element(0));
+        restore_by(
+            g,
+            stripe,
+            StripByBoth {
+                x: g.n,
+                y: g.n + 1,
+                rule,
+            },
+        );
         return;
     }
     restore_columns(g, stripe, Plan::FromData(true));
 }
 
-// By whole strips, of which the last may take columns again, as with chunks below.
-fn restore_strips(g: Geometry, stripe: &mut [u8], x: usize, y: usize, rule: Rule)
-    requires { WellShaped g stripe.old × (strip ≤ g.b) × (x < g.n + 2) × (y < g.n + 2) }
-    ensures { stripe.new ≡ lift g (λ i c. solved g.n x y rule c) stripe.old }
-{
-    let mut done = 0;
-    while done < g.b {
-        let i = stretch::next_start(g.b, STRIP, done);
-        restore_strip(g, stripe, i, x, y, rule);
-        done = i + STRIP;
-    }
-}
-
-fn restore_strip(g: Geometry, stripe: &mut [u8], i: usize, x: usize, y: usize, rule: Rule)
-    requires { HasStrip g stripe.old i × (x < g.n + 2) × (y < g.n + 2) }
-    ensures { ColumnsMapped g i strip (λ j c. solved g.n x y rule c) stripe.old stripe.new }
-{
-    let mut p = [0u8; STRIP];
-    let mut q = [0u8; STRIP];
-    sums::strip_survivors(g, stripe, i, x, y, &mut p, &mut q);
-    let mut m = 0;
-    while m < CHUNKS {
-        let c = WIDTH * m;
-        let a = chunk::load(&p[c..c + WIDTH]);
-        let b = chunk::load(&q[c..c + WIDTH]);
-        set_solved(g, stripe, i + c, x, y, rule, a, b);
-        m += 1;
-    }
-}
-
-// The bytes of both roles in a chunk of columns, solved from their P* and Q*.
-fn set_solved(
-    g: Geometry,
-    stripe: &mut [u8],
-    i: usize,
-    x: usize,
-    y: usize,
-    rule: Rule,
-    p: [u8; WIDTH],
-    q: [u8; WIDTH],
-)
-    requires { Has g stripe.old i width × (x < g.n + 2) × (y < g.n + 2) × Survivors g stripe.old i x y p q }
-    ensures { ColumnsMapped g i width (λ j c. solved g.n x y rule c) stripe.old stripe.new }
-{
-    let new = losses::solve(rule, Sums { p, q });
-    let on_x = new.first;
-    let on_y = new.second;
-    stretch::set(g, stripe, y, i, WIDTH, on_y);
-    stretch::set(g, stripe, x, i, WIDTH, on_x);
-}
-
-// By whole chunks, of which the last may take columns again: what was lost comes out the same. Each plan has
-// its own loop, so that it is not asked for again at each chunk.
+// By chunks; a block below one is a part.
 fn restore_columns(g: Geometry, stripe: &mut [u8], plan: Plan)
     requires { WellShaped g stripe.old × KnownPlan g.n plan }
     ensures { stripe.new ≡ lift g (λ i c. restored_by g.n plan c) stripe.old }
@@ -135,78 +94,137 @@ fn restore_columns(g: Geometry, stripe: &mut [u8], plan: Plan)
         return;
     }
     match plan {
-        Plan::ByP(x) => columns_by_p(g, stripe, x),
-        Plan::FromData(both) => columns_from_data(g, stripe, both),
-        Plan::ByBoth(x, y, rule) => columns_by_both(g, stripe, x, y, rule),
+        Plan::ByP(x) => restore_by(g, stripe, ByP { x }),
+        Plan::FromData(both) => restore_by(g, stripe, FromData { both }),
+        Plan::ByBoth(x, y, rule) => restore_by(g, stripe, ByBoth { x, y, rule }),
     }
 }
 
-fn columns_by_p(g: Geometry, stripe: &mut [u8], x: usize)
-    requires { WellShaped g stripe.old × (width ≤ g.b) × (x < g.n + 2) }
-    ensures { stripe.new ≡ lift g (λ i c. restored_by g.n (Plan.ByP x) c) stripe.old }
+// Step after step, of which the last may take columns again: what was lost comes out the same. Each step has a loop of
+// its own, so that no plan is asked for again at each chunk.
+fn restore_by<S: Step>(g: Geometry, stripe: &mut [u8], step: S)
+    requires { WellShaped g stripe.old × (S.COLUMNS ≤ g.b) × KnownPlan g.n (S.plan step) }
+    ensures { stripe.new ≡ lift g (λ i c. restored_by g.n (S.plan step) c) stripe.old }
 {
-    let mut done = 0;
-    while done < g.b {
-        let i = stretch::next_start(g.b, WIDTH, done);
-        restore_by_p(g, stripe, i, x);
-        done = i + WIDTH;
+    for done in (0..g.b).step_by(S::COLUMNS) {
+        let i = stretch::next_start(g.b, S::COLUMNS, done);
+        step.restore(g, stripe, i);
     }
 }
 
-fn columns_from_data(g: Geometry, stripe: &mut [u8], both: bool)
-    requires { WellShaped g stripe.old × (width ≤ g.b) }
-    ensures { stripe.new ≡ lift g (λ i c. restored_by g.n (Plan.FromData both) c) stripe.old }
-{
-    let mut done = 0;
-    while done < g.b {
-        let i = stretch::next_start(g.b, WIDTH, done);
-        restore_from_data(g, stripe, i, both);
-        done = i + WIDTH;
-    }
+// One way to restore a number of columns at once, by a plan.
+trait Step: Copy {
+    ghost COLUMNS: { ℕ };
+
+    const COLUMNS: usize;
+
+    ghost plan: { Self → Plan };
+
+    fn restore(self, g: Geometry, stripe: &mut [u8], i: usize)
+        requires { WellShaped g stripe.old × (i + COLUMNS ≤ g.b) × KnownPlan g.n (plan self) }
+        ensures { ColumnsMapped g i COLUMNS (λ j c. restored_by g.n (plan self) c) stripe.old stripe.new };
+
+    ghost some: { 0 < COLUMNS };
 }
 
-fn columns_by_both(g: Geometry, stripe: &mut [u8], x: usize, y: usize, rule: Rule)
-    requires { WellShaped g stripe.old × (width ≤ g.b) × (x < g.n + 2) × (y < g.n + 2) }
-    ensures { stripe.new ≡ lift g (λ i c. solved g.n x y rule c) stripe.old }
-{
-    let mut done = 0;
-    while done < g.b {
-        let i = stretch::next_start(g.b, WIDTH, done);
-        restore_by_both(g, stripe, i, x, y, rule);
-        done = i + WIDTH;
-    }
+#[derive(Clone, Copy)]
+struct ByP {
+    x: usize,
 }
 
-fn restore_by_p(g: Geometry, stripe: &mut [u8], i: usize, x: usize)
-    requires { Has g stripe.old i width × (x < g.n + 2) }
-    ensures { ColumnsMapped g i width (λ j c. restored_by g.n (Plan.ByP x) c) stripe.old stripe.new }
-{
-    let p = sums::sum_without(g, stripe, i, WIDTH, x);
-    stretch::set(g, stripe, x, i, WIDTH, p);
+impl Step for ByP {
+    ghost COLUMNS = { width };
+
+    const COLUMNS: usize = WIDTH;
+
+    ghost plan = { λ it. Plan.ByP it.x };
+
+    fn restore(self, g: Geometry, stripe: &mut [u8], i: usize) {
+        let p = sums::sum_without(g, stripe, i, WIDTH, self.x);
+        stretch::set(g, stripe, self.x, i, WIDTH, p);
+    }
+
+    ghost some = { Prim.search rules };
 }
 
-fn restore_from_data(g: Geometry, stripe: &mut [u8], i: usize, both: bool)
-    requires { Has g stripe.old i width }
-    ensures { ColumnsMapped g i width (λ j c. restored_by g.n (Plan.FromData both) c) stripe.old stripe.new }
-{
-    let s = sums::parities(g, stripe, i);
-    let p = s.p;
-    let q = s.q;
-    stretch::set(g, stripe, g.n + 1, i, WIDTH, q);
-    if both {
-        stretch::set(g, stripe, g.n, i, WIDTH, p);
-    }
+#[derive(Clone, Copy)]
+struct FromData {
+    both: bool,
 }
 
-fn restore_by_both(g: Geometry, stripe: &mut [u8], i: usize, x: usize, y: usize, rule: Rule)
-    requires { Has g stripe.old i width × (x < g.n + 2) × (y < g.n + 2) }
-    ensures { ColumnsMapped g i width (λ j c. solved g.n x y rule c) stripe.old stripe.new }
-{
-    let s = sums::survivors(g, stripe, i, x, y);
-    match rule {
-        Rule::Mixed(a, b) => set_mixed(g, stripe, i, x, y, a, b, s),
-        Rule::Carried(c) => set_carried(g, stripe, i, x, y, c, s),
+impl Step for FromData {
+    ghost COLUMNS = { width };
+
+    const COLUMNS: usize = WIDTH;
+
+    ghost plan = { λ it. Plan.FromData it.both };
+
+    fn restore(self, g: Geometry, stripe: &mut [u8], i: usize) {
+        let s = sums::parities(g, stripe, i);
+        let p = s.p;
+        let q = s.q;
+        stretch::set(g, stripe, g.n + 1, i, WIDTH, q);
+        if self.both {
+            stretch::set(g, stripe, g.n, i, WIDTH, p);
+        }
     }
+
+    ghost some = { Prim.search rules };
+}
+
+#[derive(Clone, Copy)]
+struct ByBoth {
+    x: usize,
+    y: usize,
+    rule: Rule,
+}
+
+impl Step for ByBoth {
+    ghost COLUMNS = { width };
+
+    const COLUMNS: usize = WIDTH;
+
+    ghost plan = { λ it. Plan.ByBoth it.x it.y it.rule };
+
+    fn restore(self, g: Geometry, stripe: &mut [u8], i: usize) {
+        let s = sums::survivors(g, stripe, i, self.x, self.y);
+        match self.rule {
+            Rule::Mixed(a, b) => set_mixed(g, stripe, i, self.x, self.y, a, b, s),
+            Rule::Carried(c) => set_carried(g, stripe, i, self.x, self.y, c, s),
+        }
+    }
+
+    ghost some = { Prim.search rules };
+}
+
+// The same of a strip, from the sums that are left in two arrays.
+#[derive(Clone, Copy)]
+struct StripByBoth {
+    x: usize,
+    y: usize,
+    rule: Rule,
+}
+
+impl Step for StripByBoth {
+    ghost COLUMNS = { strip };
+
+    const COLUMNS: usize = STRIP;
+
+    ghost plan = { λ it. Plan.ByBoth it.x it.y it.rule };
+
+    fn restore(self, g: Geometry, stripe: &mut [u8], i: usize) {
+        let mut p = [0u8; STRIP];
+        let mut q = [0u8; STRIP];
+        sums::strip_survivors(g, stripe, i, self.x, self.y, &mut p, &mut q);
+        for m in 0..CHUNKS {
+            let c = WIDTH * m;
+            let a = chunk::load(&p[c..c + WIDTH]);
+            let b = chunk::load(&q[c..c + WIDTH]);
+            set_solved(g, stripe, i + c, self.x, self.y, self.rule, a, b);
+        }
+    }
+
+    ghost some = { Prim.search rules };
 }
 
 // The first is a p + b q, the second what is left of p.
@@ -241,4 +259,25 @@ fn set_carried(g: Geometry, stripe: &mut [u8], i: usize, x: usize, y: usize, c: 
     products::add_product(&mut q, c, p);
     stretch::set(g, stripe, y, i, WIDTH, q);
     stretch::set(g, stripe, x, i, WIDTH, p);
+}
+
+// The bytes of both roles in a chunk of columns, solved from their P* and Q*.
+fn set_solved(
+    g: Geometry,
+    stripe: &mut [u8],
+    i: usize,
+    x: usize,
+    y: usize,
+    rule: Rule,
+    p: [u8; WIDTH],
+    q: [u8; WIDTH],
+)
+    requires { Has g stripe.old i width × (x < g.n + 2) × (y < g.n + 2) × Survivors g stripe.old i x y p q }
+    ensures { ColumnsMapped g i width (λ j c. solved g.n x y rule c) stripe.old stripe.new }
+{
+    let new = losses::solve(rule, Sums { p, q });
+    let on_x = new.first;
+    let on_y = new.second;
+    stretch::set(g, stripe, y, i, WIDTH, on_y);
+    stretch::set(g, stripe, x, i, WIDTH, on_x);
 }

@@ -12,36 +12,21 @@ use shape::Geometry;
 pub fn has_columns(g: Geometry, len: usize, i: usize, w: usize) -> bool
     ensures { result ≡ has_columns g len i w }
 {
-    if shape::encode_refusal(g, len).is_err() {
-        return false;
-    }
-    if g.b < w {
-        return false;
-    }
-    if g.b - w < i {
-        return false;
-    }
-    w <= WIDTH
+    shape::encode_refusal(g, len).is_ok() && w <= g.b && i <= g.b - w && w <= WIDTH
 }
 
 // Whether a stripe with n data disks has a role.
 pub fn has_role(n: usize, role: usize) -> bool
     ensures { result ≡ ltb role (n + 2) }
 {
-    if role < n {
-        return true;
-    }
-    role - n < 2
+    role < n || role - n < 2
 }
 
 // Where w columns begin that follow the first `done` of b; the last begin earlier, so that they fit.
 pub fn next_start(b: usize, w: usize, done: usize) -> usize
     ensures { result ≡ min done (b - w) }
 {
-    if b < w {
-        return 0;
-    }
-    if b - w < done { b - w } else { done }
+    done.min(b.saturating_sub(w))
 }
 
 // The bytes of a role in these columns, with 00 behind them and for what the stripe has not.

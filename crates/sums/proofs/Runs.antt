@@ -2,13 +2,14 @@
 -- above the higher of two lost ones, between both and below, each lost one as 00.
 -- Assumes nothing.
 use mathlib.Core.Path.{◌≡◌, refl, sym, ap, ◌∙◌}
-use mathlib.Core.Logic.{◌⊎◌, inr, ⊎_elim}
+use mathlib.Core.Logic.{◌⊎◌, inl, inr, ⊎_elim}
 use mathlib.Core.Bool.{true, true≢false}
 use mathlib.Core.List.{List}
-use Prim.Native.Nat.{ℕ, suc, ◌+◌, ◌-◌, ◌≤◌, ◌<◌}
+use Prim.Native.Nat.{ℕ, suc, ◌+◌, ◌-◌, ◌≤◌, ◌<◌, min, max}
 use native.Mathlib.Omega.{arith}
 use borrow.Author.Tests.{le-ltb, lt-leb}
 use lib.ListN.{length, get_or, take, drop, replicate}
+use Rattle.base.proofs.Choice.{below_or_not}
 use Rattle.base.proofs.Table.{tabulate_same}
 use Rattle.chunk.specs.Chunk.{width, each, plus, double_plus}
 use Rattle.chunk.specs.declared.Sums.{Sums}
@@ -112,6 +113,12 @@ Lower x y low = (low ≤ x) × (low ≤ y) × ((low ≡ x) ⊎ (low ≡ y))
 
 abbrev Higher : ℕ → ℕ → ℕ → Type 0
 Higher x y high = (x ≤ high) × (y ≤ high) × ((high ≡ x) ⊎ (high ≡ y))
+
+pub lower_min : {x y low : ℕ} → low ≡ min x y → Lower x y low
+lower_min {x} {y} {low} is = (omega arith, omega arith, ⊎_elim (λ p. inl (omega arith)) (λ p. inr (omega arith)) (below_or_not x y))
+
+pub higher_max : {x y high : ℕ} → high ≡ max x y → Higher x y high
+higher_max {x} {y} {high} is = (omega arith, omega arith, ⊎_elim (λ p. inr (omega arith)) (λ p. inl (omega arith)) (below_or_not x y))
 
 neither : {x y low high k : ℕ} → Lower x y low → Higher x y high → (k ≡ low → ⊥) → (k ≡ high → ⊥) → (k ≡ x → ⊥) × (k ≡ y → ⊥)
 neither l h not_low not_high = (

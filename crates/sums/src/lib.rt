@@ -2,14 +2,14 @@
 // disk down. A stripe that has not these columns is taken as 00.
 #![tactic(auto)]
 
-ghost use Rattle.std.specs.Prelude.{◌≡◌, ◌⊎◌, ◌+◌, ◌≤◌, ◌<◌, get_or};
+ghost use Rattle.std.specs.Prelude.{◌≡◌, ℕ, ⊤, ◌+◌, ◌≤◌, ◌<◌, get_or};
 ghost use Rattle.chunk.specs.Chunk.{width, each};
 ghost use Rattle.losses.specs.Losses.{without, by_p};
 ghost use Rattle.shape.specs.Refusals.{WellShaped};
 ghost use Rattle.shape.specs.Columns.{ColumnsMapped};
 ghost use Rattle.column.specs.Column.{put, encode_column, reed_solomon};
 ghost use Rattle.stretch.specs.Stretch.{Has, column_of, set_on};
-ghost use Rattle.sums.specs.Sums.{parities_of, sums_of, DisksAdded, AddedAbove};
+ghost use Rattle.sums.specs.Sums.{parities_of, sums_of, Tails, DisksAdded, AddedAbove};
 ghost use Rattle.sums.specs.Strip.{strip, in_strips, has_strip, HasStrip, strip_column, StripSummed, Stage, outside, plain_group, GroupAdded, AddedWithin};
 ghost use Rattle.sums.specs.Passes.{page, in_passes, parities_set, Passed};
 
@@ -43,32 +43,24 @@ const PASS: usize = 5;
 pub fn parities(g: Geometry, stripe: &[u8], i: usize) -> Sums
     ensures { result ≡ parities_of g.n (column_of g stripe.now i width) }
 {
-    let mut sums = Sums::ZERO;
-    if stretch::has_columns(g, stripe.len(), i, WIDTH) {
-        let k = g.n - 1;
-        let d = stretch::load(g, stripe, k, i, WIDTH);
-        sums.add_disk(&d);
-        add_pairs(g, stripe, i, k, &mut sums);
+    if !stretch::has_columns(g, stripe.len(), i, WIDTH) {
+        return Sums::ZERO;
     }
-    sums
+    data_sums(g, stripe, i)
 }
 
 // P* and Q* of each column of a chunk: the parities that the data give, and the stored ones added.
-// It does not call `parities`, which has one caller and so is compiled into that one's loop.
 pub fn syndromes(g: Geometry, stripe: &[u8], i: usize) -> Sums
     ensures { result ≡ sums_of g.n (column_of g stripe.now i width) }
 {
-    let mut sums = Sums::ZERO;
-    if stretch::has_columns(g, stripe.len(), i, WIDTH) {
-        let k = g.n - 1;
-        let d = stretch::load(g, stripe, k, i, WIDTH);
-        sums.add_disk(&d);
-        add_pairs(g, stripe, i, k, &mut sums);
-        let d = stretch::load(g, stripe, g.n, i, WIDTH);
-        chunk::add(&mut sums.p, &d);
-        let d = stretch::load(g, stripe, g.n + 1, i, WIDTH);
-        chunk::add(&mut sums.q, &d);
+    if !stretch::has_columns(g, stripe.len(), i, WIDTH) {
+        return Sums::ZERO;
     }
+    let mut sums = data_sums(g, stripe, i);
+    let d = stretch::load(g, stripe, g.n, i, WIDTH);
+    chunk::add(&mut sums.p, &d);
+    let d = stretch::load(g, stripe, g.n + 1, i, WIDTH);
+    chunk::add(&mut sums.q, &d);
     sums
 }
 
@@ -81,8 +73,8 @@ pub fn survivors(g: Geometry, stripe: &[u8], i: usize, x: usize, y: usize) -> Su
     if !stretch::has_columns(g, stripe.len(), i, WIDTH) {
         return sums;
     }
-    let k = add_above(g, stripe, i, higher(x, y), g.n, &mut sums);
-    let k = add_above(g, stripe, i, lower(x, y), k, &mut sums);
+    let k = add_above(g, stripe, i, x.max(y), g.n, &mut sums);
+    let k = add_above(g, stripe, i, x.min(y), k, &mut sums);
     add_disks(g, stripe, i, 0, k, &mut sums);
     let d = load_but(g, stripe, g.n, i, WIDTH, x, y);
     chunk::add(&mut sums.p, &d);
@@ -91,7 +83,7 @@ pub fn survivors(g: Geometry, stripe: &[u8], i: usize, x: usize, y: usize) -> Su
     sums
 }
 
-// The same of w columns.
+// The same of w columns. `survivors` is not this at a chunk's width: it tests no disk for being lost.
 pub fn part_survivors(g: Geometry, stripe: &[u8], i: usize, w: usize, x: usize, y: usize) -> Sums
     ensures { result ≡ sums_of g.n (λ j. without x y (column_of g stripe.now i w j)) }
 {
@@ -99,9 +91,7 @@ pub fn part_survivors(g: Geometry, stripe: &[u8], i: usize, w: usize, x: usize, 
     if !stretch::has_columns(g, stripe.len(), i, w) {
         return sums;
     }
-    let mut k = g.n;
-    while 0 < k {
-        k -= 1;
+    for k in (0..g.n).rev() {
         let d = load_but(g, stripe, k, i, w, x, y);
         sums.add_disk(&d);
     }
@@ -113,7 +103,8 @@ pub fn part_survivors(g: Geometry, stripe: &[u8], i: usize, w: usize, x: usize, 
 }
 
 // The same of a strip, left in p and q; they stay where the stripe has not these columns. With many
-// disks this is faster than chunk after chunk: a strip of some disks is read before the next ones.
+// disks this is faster than chunk after chunk: a strip of some disks is read before the next ones. The groups of disks go
+// down and the last has what is left, so that no range gives them.
 pub fn strip_survivors(
     g: Geometry,
     stripe: &[u8],
@@ -132,7 +123,7 @@ pub fn strip_survivors(
     *q = [0u8; STRIP];
     let mut to = g.n;
     while 0 < to {
-        let from = group_below(to);
+        let from = to.saturating_sub(GROUP);
         add_to_strip(g, stripe, i, x, y, from, to, p, q);
         to = from;
     }
@@ -142,20 +133,14 @@ pub fn strip_survivors(
 pub fn in_strips(g: Geometry) -> bool
     ensures { result ≡ in_strips g }
 {
-    if g.n <= FEW {
-        return false;
-    }
-    STRIP <= g.b
+    FEW < g.n && STRIP <= g.b
 }
 
 // Whether P and Q of a stripe are set in passes: blocks are whole pages, and the disks are too many to be read side by side.
 pub fn in_passes(g: Geometry) -> bool
     ensures { result ≡ in_passes g }
 {
-    if g.n <= SIDE_BY_SIDE {
-        return false;
-    }
-    g.b % PAGE == 0
+    SIDE_BY_SIDE < g.n && g.b % PAGE == 0
 }
 
 // P and Q of every column as the data give them, in passes over each page: a pass adds some disks, and in between P and Q
@@ -170,10 +155,8 @@ pub fn set_parities(g: Geometry, stripe: &mut [u8])
         return;
     }
     let pages = g.b / PAGE;
-    let mut m = 0;
-    while m < pages {
+    for m in 0..pages {
         set_page(g, stripe, PAGE * m);
-        m += 1;
     }
 }
 
@@ -185,27 +168,28 @@ pub fn sum_without(g: Geometry, stripe: &[u8], i: usize, w: usize, x: usize) -> 
     if !stretch::has_columns(g, stripe.len(), i, w) {
         return p;
     }
-    let mut k = 0;
-    while k < g.n + 1 {
+    for k in 0..g.n + 1 {
         if k != x {
             let d = stretch::load(g, stripe, k, i, w);
             chunk::add(&mut p, &d);
         }
-        k += 1;
     }
     p
 }
 
-fn higher(x: usize, y: usize) -> usize
-    ensures { (x ≤ result) × (y ≤ result) × ((result ≡ x) ⊎ (result ≡ y)) }
+// All disks of a chunk. The highest meets sums of 00, so that its step is a copy. It is compiled into each caller, as one that is
+// called for each chunk.
+#[inline(always)]
+fn data_sums(g: Geometry, stripe: &[u8], i: usize) -> Sums
+    requires { Has g stripe.now i width }
+    ensures { Tails g.n 0 (column_of g stripe.now i width) result }
 {
-    if x < y { y } else { x }
-}
-
-fn lower(x: usize, y: usize) -> usize
-    ensures { (result ≤ x) × (result ≤ y) × ((result ≡ x) ⊎ (result ≡ y)) }
-{
-    if x < y { x } else { y }
+    let mut sums = Sums::ZERO;
+    let k = g.n - 1;
+    let d = stretch::load(g, stripe, k, i, WIDTH);
+    sums.add_disk(&d);
+    add_pairs(g, stripe, i, k, &mut sums);
+    sums
 }
 
 // The disks below `to` down to the lost one, which counts as 00. The first that is done.
@@ -226,10 +210,8 @@ fn add_disks(g: Geometry, stripe: &[u8], i: usize, from: usize, to: usize, sums:
     requires { Has g stripe.now i width × (from ≤ to) × (to ≤ g.n) }
     ensures { DisksAdded g i from to stripe.now sums.old sums.new }
 {
-    let mut k = to;
     let mut at = g.start(to) + i;
-    while from < k {
-        k -= 1;
+    for k in (from..to).rev() {
         at = g.role_before(at);
         let d = chunk::load(&stripe[at..at + WIDTH]);
         sums.add_disk(&d);
@@ -242,43 +224,22 @@ fn add_pairs(g: Geometry, stripe: &[u8], i: usize, to: usize, sums: &mut Sums)
     requires { Has g stripe.now i width × (to ≤ g.n) }
     ensures { DisksAdded g i 0 to stripe.now sums.old sums.new }
 {
-    let mut k = to;
     let mut at = g.start(to) + i;
-    while 1 < k {
-        k -= 2;
+    for m in 0..to / 2 {
         let above = g.role_before(at);
         at = g.role_before(above);
         let d = chunk::load(&stripe[above..above + WIDTH]);
         let e = chunk::load(&stripe[at..at + WIDTH]);
         sums.add_two_disks(&d, &e);
     }
-    add_disks(g, stripe, i, 0, k, sums);
+    add_disks(g, stripe, i, 0, to % 2, sums);
 }
 
 // Whether a buffer of this length is a stripe with a strip of columns from i on.
 fn has_strip(g: Geometry, len: usize, i: usize) -> bool
     ensures { result ≡ has_strip g len i }
 {
-    if shape::encode_refusal(g, len).is_err() {
-        return false;
-    }
-    if g.b < STRIP {
-        return false;
-    }
-    i <= g.b - STRIP
-}
-
-fn group_below(to: usize) -> usize
-    ensures { (result ≤ to) × (0 < to → result < to) }
-{
-    if to < GROUP { 0 } else { to - GROUP }
-}
-
-// The lowest of the disks of a pass, or disk 0 where there are fewer.
-fn pass_below(to: usize) -> usize
-    ensures { (result ≤ to) × (0 < to → result < to) }
-{
-    if to < PASS { 0 } else { to - PASS }
+    shape::encode_refusal(g, len).is_ok() && STRIP <= g.b && i <= g.b - STRIP
 }
 
 // A group of disks in all chunks of a strip.
@@ -296,8 +257,7 @@ fn add_to_strip(
     requires { HasStrip g stripe.now i × (from < to) × (to ≤ g.n) × Stage strip g.n to (strip_column g stripe.now i x y) p.old q.old }
     ensures { Stage strip g.n from (strip_column g stripe.now i x y) p.new q.new }
 {
-    let mut m = 0;
-    while m < CHUNKS {
+    for m in 0..CHUNKS {
         let c = WIDTH * m;
         let mut sums = Sums {
             p: chunk::load(&p[c..c + WIDTH]),
@@ -306,7 +266,6 @@ fn add_to_strip(
         add_group(g, stripe, i + c, x, y, from, to, &mut sums);
         chunk::store(&mut p[c..c + WIDTH], sums.p);
         chunk::store(&mut q[c..c + WIDTH], sums.q);
-        m += 1;
     }
 }
 
@@ -329,8 +288,8 @@ fn add_group(
         add_disks(g, stripe, i, from, to, sums);
         return;
     }
-    let k = add_within(g, stripe, i, higher(x, y), from, to, sums);
-    let k = add_within(g, stripe, i, lower(x, y), from, k, sums);
+    let k = add_within(g, stripe, i, x.max(y), from, to, sums);
+    let k = add_within(g, stripe, i, x.min(y), from, k, sums);
     add_disks(g, stripe, i, from, k, sums);
     if from == 0 {
         let d = load_but(g, stripe, g.n, i, WIDTH, x, y);
@@ -344,22 +303,13 @@ fn add_group(
 fn is_plain(x: usize, y: usize, from: usize, to: usize) -> bool
     ensures { result ≡ plain_group x y from to }
 {
-    if !is_outside(x, from, to) {
-        return false;
-    }
-    if !is_outside(y, from, to) {
-        return false;
-    }
-    0 < from
+    is_outside(x, from, to) && is_outside(y, from, to) && 0 < from
 }
 
 fn is_outside(role: usize, from: usize, to: usize) -> bool
     ensures { result ≡ outside role from to }
 {
-    if role < from {
-        return true;
-    }
-    to <= role
+    role < from || to <= role
 }
 
 // Those above a lost disk and the lost one as 00, if it is one of them. The first that is done.
@@ -393,76 +343,95 @@ fn load_but(
 ) -> [u8; WIDTH]
     ensures { result ≡ each (λ j. without x y (column_of g stripe.now i w j) role) }
 {
-    if role == x {
-        return [0u8; WIDTH];
-    }
-    if role == y {
+    if role == x || role == y {
         return [0u8; WIDTH];
     }
     stretch::load(g, stripe, role, i, w)
 }
 
-// The parities of a page of columns.
+// The parities of a page of columns. The disks of a pass lie below those of the one before, and the last has what is left, so
+// that no range counts them.
 fn set_page(g: Geometry, stripe: &mut [u8], i: usize)
     requires { WellShaped g stripe.old × (i + page ≤ g.b) }
     ensures { ColumnsMapped g i page (λ j c. encode_column reed_solomon g.n c) stripe.old stripe.new }
 {
-    let mut to = pass_below(g.n);
-    begin_page(g, stripe, i, to);
+    let mut to = g.n.saturating_sub(PASS);
+    pass_over(g, stripe, i, Begin { from: to });
     while 0 < to {
-        let next = pass_below(to);
-        carry_page(g, stripe, i, next, to);
+        let next = to.saturating_sub(PASS);
+        pass_over(g, stripe, i, Carry { from: next, to });
         to = next;
     }
 }
 
-// The first pass: the sums over the disks from `from` on.
-fn begin_page(g: Geometry, stripe: &mut [u8], i: usize, from: usize)
-    requires { WellShaped g stripe.old × (i + page ≤ g.b) × (from < g.n) }
-    ensures { Passed g i page from g.n stripe.old stripe.new }
+// A pass over a page, chunk after chunk.
+fn pass_over<P: Pass>(g: Geometry, stripe: &mut [u8], i: usize, pass: P)
+    requires { WellShaped g stripe.old × (i + page ≤ g.b) × (P.from pass ≤ P.to pass g.n) × (P.from pass < g.n) × P.Known pass g.n }
+    ensures { Passed g i page (P.from pass) (P.to pass g.n) stripe.old stripe.new }
 {
-    let mut m = 0;
-    while m < PAGE_CHUNKS {
-        begin_chunk(g, stripe, i + WIDTH * m, from);
-        m += 1;
+    for m in 0..PAGE_CHUNKS {
+        pass.chunk(g, stripe, i + WIDTH * m);
     }
 }
 
-// One more pass: the disks below `to` down to `from` are added to the sums.
-fn carry_page(g: Geometry, stripe: &mut [u8], i: usize, from: usize, to: usize)
-    requires { WellShaped g stripe.old × (i + page ≤ g.b) × (from ≤ to) × (to < g.n) }
-    ensures { Passed g i page from to stripe.old stripe.new }
-{
-    let mut m = 0;
-    while m < PAGE_CHUNKS {
-        carry_chunk(g, stripe, i + WIDTH * m, from, to);
-        m += 1;
+// What a pass does to a chunk: the disks below one disk of n, down to another, are added to the sums.
+trait Pass: Copy {
+    ghost from: { Self → ℕ };
+
+    ghost to: { Self → ℕ → ℕ };
+
+    ghost Known: { Self → ℕ → Type 0 };
+
+    fn chunk(self, g: Geometry, stripe: &mut [u8], i: usize)
+        requires { Has g stripe.old i width × (from self ≤ to self g.n) × (from self < g.n) × Known self g.n }
+        ensures { Passed g i width (from self) (to self g.n) stripe.old stripe.new };
+}
+
+// The first pass. The highest disk meets sums of 00, so that its step is a copy.
+#[derive(Clone, Copy)]
+struct Begin {
+    from: usize,
+}
+
+impl Pass for Begin {
+    ghost from = { λ it. it.from };
+
+    ghost to = { λ it n. n };
+
+    ghost Known = { λ it n. ⊤ };
+
+    fn chunk(self, g: Geometry, stripe: &mut [u8], i: usize) {
+        let mut sums = Sums::ZERO;
+        let k = g.n - 1;
+        let d = chunk_at(g, stripe, k, i);
+        sums.add_disk(&d);
+        add_disks(g, stripe, i, self.from, k, &mut sums);
+        set_sums(g, stripe, i, sums);
     }
 }
 
-// The highest disk meets sums of 00, so that its step is a copy.
-fn begin_chunk(g: Geometry, stripe: &mut [u8], i: usize, from: usize)
-    requires { Has g stripe.old i width × (from < g.n) }
-    ensures { Passed g i width from g.n stripe.old stripe.new }
-{
-    let mut sums = Sums::ZERO;
-    let k = g.n - 1;
-    let d = chunk_at(g, stripe, k, i);
-    sums.add_disk(&d);
-    add_disks(g, stripe, i, from, k, &mut sums);
-    set_sums(g, stripe, i, sums);
+// One more, to the sums that P and Q hold.
+#[derive(Clone, Copy)]
+struct Carry {
+    from: usize,
+    to: usize,
 }
 
-fn carry_chunk(g: Geometry, stripe: &mut [u8], i: usize, from: usize, to: usize)
-    requires { Has g stripe.old i width × (from ≤ to) × (to < g.n) }
-    ensures { Passed g i width from to stripe.old stripe.new }
-{
-    let mut sums = Sums {
-        p: chunk_at(g, stripe, g.n, i),
-        q: chunk_at(g, stripe, g.n + 1, i),
-    };
-    add_disks(g, stripe, i, from, to, &mut sums);
-    set_sums(g, stripe, i, sums);
+impl Pass for Carry {
+    ghost from = { λ it. it.from };
+
+    ghost to = { λ it n. it.to };
+
+    ghost Known = { λ it n. it.to < n };
+
+    fn chunk(self, g: Geometry, stripe: &mut [u8], i: usize) {
+        let mut sums = Sums {
+            p: chunk_at(g, stripe, g.n, i),
+            q: chunk_at(g, stripe, g.n + 1, i),
+        };
+        add_disks(g, stripe, i, self.from, self.to, &mut sums);
+        set_sums(g, stripe, i, sums);
+    }
 }
 
 // Both sums of a chunk, in the places of P and Q.

@@ -8,4 +8,4 @@ use Rattle.restore.proofs.restore_parities.Goals as goal
 pub returns-then-in_strips : goal.returns-then-in_strips
 returns-then-in_strips c =
     let a = c.args in
-    c.restore_strips.ensures ∙ ap (λ (f : Column → Column). lift a.g (λ i. f) a.stripe.now) (fun_ext λ e. encode_solved a.g.n e)
+    c.restore_by.ensures ∙ ap (λ (f : Column → Column). lift a.g (λ i. f) a.stripe.now) (fun_ext λ e. encode_solved a.g.n e)

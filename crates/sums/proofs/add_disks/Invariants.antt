@@ -6,7 +6,4 @@ use Rattle.sums.specs.Sums.{DisksAdded}
 use Rattle.sums.proofs.add_disks.Given as goal
 
 abbrev pub invariant-loop-k : goal.invariant-loop-k
-invariant-loop-k l = (l.from ≤ l.k) × (l.k ≤ l.to) × (l.at ≡ start l.g l.k + l.i) × DisksAdded l.g l.i l.k l.to l.stripe l.initial.sums l.sums
-
-abbrev pub decreases-loop-k : goal.decreases-loop-k
-decreases-loop-k l = l.k
+invariant-loop-k l = (l.from ≤ l.k) × (l.at ≡ start l.g l.k + l.i) × DisksAdded l.g l.i l.k l.to l.stripe l.initial.sums l.sums

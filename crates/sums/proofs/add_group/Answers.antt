@@ -5,7 +5,7 @@ use borrow.Author.Tests.{ltb-true}
 use lib.Dec.{ltb}
 use Rattle.base.proofs.Choice.{both_true}
 use Rattle.sums.specs.Strip.{outside}
-use Rattle.sums.proofs.Runs.{plain_added, runs_added}
+use Rattle.sums.proofs.Runs.{plain_added, runs_added, lower_min, higher_max}
 use Rattle.sums.proofs.Strips.{stage_some, stage_stored}
 use Rattle.sums.proofs.add_group.Goals as goal
 
@@ -17,7 +17,7 @@ returns-then-is_plain c =
     λ tails. stage_some _ _ (omega (arith, ltb-true 0 a.from rest.1)) (plain_added a.x a.y c.requires.0 plain.0 rest.0 c.add_disks.ensures tails)
 
 pub returns-then-from-eq0 : goal.returns-then-from-eq0
-returns-then-from-eq0 c = λ tails. stage_stored _ _ c.if-from-eq0.true ((runs_added c.args.x c.args.y c.requires.0 c.lower.ensures c.higher.ensures c.add_within-k.ensures c.add_within-k-2.ensures c.add_disks-2.ensures) tails) c.load_but-d.ensures c.load_but-d-then-from-eq0.ensures c.add.ensures c.add-then-from-eq0.ensures
+returns-then-from-eq0 c = λ tails. stage_stored _ _ c.if-from-eq0.true ((runs_added c.args.x c.args.y c.requires.0 (lower_min c.min.ensures) (higher_max c.max.ensures) c.add_within-k.ensures c.add_within-k-2.ensures c.add_disks-2.ensures) tails) c.load_but-d.ensures c.load_but-d-then-from-eq0.ensures c.add.ensures c.add-then-from-eq0.ensures
 
 pub returns-else-from-eq0 : goal.returns-else-from-eq0
-returns-else-from-eq0 c = λ tails. stage_some _ _ c.if-from-eq0.false ((runs_added c.args.x c.args.y c.requires.0 c.lower.ensures c.higher.ensures c.add_within-k.ensures c.add_within-k-2.ensures c.add_disks-2.ensures) tails)
+returns-else-from-eq0 c = λ tails. stage_some _ _ c.if-from-eq0.false ((runs_added c.args.x c.args.y c.requires.0 (lower_min c.min.ensures) (higher_max c.max.ensures) c.add_within-k.ensures c.add_within-k-2.ensures c.add_disks-2.ensures) tails)

@@ -1,7 +1,7 @@
 -- `sums::add_pairs` meets its contract.
 use borrow.Author.Rules.{elem_Fits}
-use mathlib.Core.Path.{◌≡◌, refl}
-use Prim.Native.Nat.{ℕ, ◌+◌, ◌-◌, ◌≤◌}
+use mathlib.Core.Path.{◌≡◌, refl, ap, subst, ◌∙◌}
+use Prim.Native.Nat.{ℕ, ◌+◌, ◌*◌, ◌-◌, ◌≤◌, ◌%◌}
 use native.Mathlib.Omega.{arith}
 use mir.Syntax.{w8}
 use lib.ListN.{length}
@@ -11,6 +11,7 @@ use Rattle.shape.specs.Layout.{start, place_before}
 use Rattle.stretch.specs.Stretch.{Has}
 use Rattle.std.proofs.Common.{◌≡◌, ℕ, ◌+◌, ◌-◌, ◌<◌, ◌≤◌, List, length}
 use Rattle.chunk.specs.Chunk.{width}
+use Rattle.sums.specs.Sums.{Tails}
 use Rattle.sums.proofs.Runs.{placed, inside, below, disk_added}
 use Rattle.sums.proofs.add_pairs.Goals as goal
 
@@ -35,29 +36,35 @@ pub overflow_add-at : goal.overflow_add-at
 overflow_add-at c = omega (arith, inside c.requires.0 c.args.to (omega arith) (placed c.requires.0 c.args.to (omega arith) c.start.ensures))
 
 pub overflow_add-above : goal.overflow_add-above
-overflow_add-above c = omega (arith, (ends c.requires.0 c.loop-k.k (omega arith) (omega arith) (omega arith) c.loop-k.invariant.1 c.role_before-above.ensures c.role_before-at.ensures).0)
+overflow_add-above c = omega (arith, (ends c.requires.0 (c.args.to - 2 * c.loop-m.m) (omega arith) (omega arith) (omega arith) c.loop-m.invariant.0 c.role_before-above.ensures c.role_before-at.ensures).0)
 
 pub slice_bounds-load-end : goal.slice_bounds-load-end
-slice_bounds-load-end c = omega (arith, (ends c.requires.0 c.loop-k.k (omega arith) (omega arith) (omega arith) c.loop-k.invariant.1 c.role_before-above.ensures c.role_before-at.ensures).0)
+slice_bounds-load-end c = omega (arith, (ends c.requires.0 (c.args.to - 2 * c.loop-m.m) (omega arith) (omega arith) (omega arith) c.loop-m.invariant.0 c.role_before-above.ensures c.role_before-at.ensures).0)
 
-pub overflow_add-at-in-loop-k : goal.overflow_add-at-in-loop-k
-overflow_add-at-in-loop-k c = omega (arith, (ends c.requires.0 c.loop-k.k (omega arith) (omega arith) (omega arith) c.loop-k.invariant.1 c.role_before-above.ensures c.role_before-at.ensures).1)
+pub overflow_add-at-in-loop-m : goal.overflow_add-at-in-loop-m
+overflow_add-at-in-loop-m c = omega (arith, (ends c.requires.0 (c.args.to - 2 * c.loop-m.m) (omega arith) (omega arith) (omega arith) c.loop-m.invariant.0 c.role_before-above.ensures c.role_before-at.ensures).1)
 
-pub slice_bounds-load-end-in-loop-k : goal.slice_bounds-load-end-in-loop-k
-slice_bounds-load-end-in-loop-k c = omega (arith, (ends c.requires.0 c.loop-k.k (omega arith) (omega arith) (omega arith) c.loop-k.invariant.1 c.role_before-above.ensures c.role_before-at.ensures).1)
+pub slice_bounds-load-end-in-loop-m : goal.slice_bounds-load-end-in-loop-m
+slice_bounds-load-end-in-loop-m c = omega (arith, (ends c.requires.0 (c.args.to - 2 * c.loop-m.m) (omega arith) (omega arith) (omega arith) c.loop-m.invariant.0 c.role_before-above.ensures c.role_before-at.ensures).1)
 
-pub loop-k-preserved : goal.loop-k-preserved
-loop-k-preserved c =
+pub loop-m-preserved : goal.loop-m-preserved
+loop-m-preserved c =
     let a = c.args in
-    let l = c.loop-k in
+    let l = c.loop-m in
     let d = c.load-d in
     let e = c.load-e in
-    let at = places c.requires.0 c.loop-k.k (omega arith) (omega arith) (omega arith) c.loop-k.invariant.1 c.role_before-above.ensures c.role_before-at.ensures in
-    let first = disk_added a.g a.stripe.now a.i d.result (omega arith) (omega arith) (omega arith) l.invariant.2 at.0 d.ensures (λ j. (elem_Fits w8 w8 d.result d.type_inv.0 j d.type_inv.1.1 tt).fits) refl refl in (
-      omega arith,
-      at.1,
-      disk_added a.g a.stripe.now a.i e.result (omega arith) (omega arith) (omega arith) first at.1 e.ensures
+    let at = places c.requires.0 (c.args.to - 2 * c.loop-m.m) (omega arith) (omega arith) (omega arith) c.loop-m.invariant.0 c.role_before-above.ensures c.role_before-at.ensures in
+    let lower : c.role_before-at.result ≡ start a.g (a.to - 2 * (l.m + 1)) + a.i = at.1 ∙ ap (λ (k : ℕ). start a.g k + a.i) (omega arith) in
+    let first = disk_added a.g a.stripe.now a.i d.result (omega arith) (omega arith) (omega arith) l.invariant.1 at.0 d.ensures (λ j. (elem_Fits w8 w8 d.result d.type_inv.0 j d.type_inv.1.1 tt).fits) refl refl in (
+      lower,
+      disk_added a.g a.stripe.now a.i e.result (omega arith) (omega arith) (omega arith) first lower e.ensures
           (λ j. (elem_Fits w8 w8 e.result e.type_inv.0 j e.type_inv.1.1 tt).fits)
           c.add_two_disks.ensures.0
           c.add_two_disks.ensures.1,
     )
+
+pub returns : goal.returns
+returns c =
+    let l = c.loop-m in
+    let same : c.args.to - 2 * l.m ≡ c.args.to % 2 = omega arith in
+    λ f agrees tails. c.add_disks.ensures f (λ j k p low high. agrees j k p low (omega arith)) (subst (λ (k : ℕ). Tails c.args.g.n k f l.p l.q) same (l.invariant.1 f (λ j k p low high. agrees j k p (omega arith) high) tails))

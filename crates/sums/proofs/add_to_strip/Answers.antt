@@ -20,7 +20,7 @@ use Rattle.sums.proofs.add_to_strip.Goals as goal
 pub loop-m-init : goal.loop-m-init
 loop-m-init c =
     let stage = c.requires.3 in
-    (omega arith, fill_none (ap length stage.first ∙ length_tabulate strip _), fill_none (ap length stage.second ∙ length_tabulate strip _))
+    (fill_none (ap length stage.first ∙ length_tabulate strip _), fill_none (ap length stage.second ∙ length_tabulate strip _))
 
 pub loop-m-preserved : goal.loop-m-preserved
 loop-m-preserved c =
@@ -35,19 +35,19 @@ loop-m-preserved c =
     let some = ne_eqb a.to 0 (omega (arith, c.requires.1)) in
     let tails : Tails n a.to f (two c.load.result c.load-in-loop-m.result) =
     record {
-      first = chunk_loaded l.invariant.1 fits _ (λ j. tail_p n a.to (f j)) c.requires.3.first c.load.ensures (λ j h. rw some (ap (tail_p n a.to) (sym (same j h))));
-      second = chunk_loaded l.invariant.2 fits _ (λ j. tail_q n a.to (f j)) c.requires.3.second c.load-in-loop-m.ensures (λ j h. rw some (ap (tail_q n a.to) (sym (same j h))));
+      first = chunk_loaded l.invariant.0 fits _ (λ j. tail_p n a.to (f j)) c.requires.3.first c.load.ensures (λ j h. rw some (ap (tail_p n a.to) (sym (same j h))));
+      second = chunk_loaded l.invariant.1 fits _ (λ j. tail_q n a.to (f j)) c.requires.3.second c.load-in-loop-m.ensures (λ j h. rw some (ap (tail_q n a.to) (sym (same j h))));
     } in
     let done = c.add_group.ensures tails in
-    (omega (arith, fits), chunk_stored l.invariant.1 fits (λ j. stage_p n a.from (f j)) next done.first (λ j h. ap (stage_p n a.from) (same j h)) c.store.ensures (Post-is k (k + width) l.p (omega arith)), chunk_stored l.invariant.2 fits (λ j. stage_q n a.from (f j)) next done.second (λ j h. ap (stage_q n a.from) (same j h)) c.store-in-loop-m.ensures (Post-is k (k + width) l.q (omega arith)))
+    (chunk_stored l.invariant.0 fits (λ j. stage_p n a.from (f j)) next done.first (λ j h. ap (stage_p n a.from) (same j h)) c.store.ensures (Post-is k (k + width) l.p (omega arith)), chunk_stored l.invariant.1 fits (λ j. stage_q n a.from (f j)) next done.second (λ j h. ap (stage_q n a.from) (same j h)) c.store-in-loop-m.ensures (Post-is k (k + width) l.q (omega arith)))
 
 pub shape_of-p : goal.shape_of-p
-shape_of-p c = c.loop-m.invariant.1.long ∙ sym (ap length c.requires.3.first ∙ length_tabulate strip _)
+shape_of-p c = c.loop-m.invariant.0.long ∙ sym (ap length c.requires.3.first ∙ length_tabulate strip _)
 
 pub shape_of-q : goal.shape_of-q
-shape_of-q c = c.loop-m.invariant.2.long ∙ sym (ap length c.requires.3.second ∙ length_tabulate strip _)
+shape_of-q c = c.loop-m.invariant.1.long ∙ sym (ap length c.requires.3.second ∙ length_tabulate strip _)
 
 pub returns : goal.returns
 returns c =
     let l = c.loop-m in
-    record { first = fill_all l.invariant.1 (omega arith); second = fill_all l.invariant.2 (omega arith) }
+    record { first = fill_all l.invariant.0 (omega arith); second = fill_all l.invariant.1 (omega arith) }

@@ -1,12 +1,8 @@
 -- `sums::part_survivors` meets its contract. The loop's invariant: the disks from k on are added, lost ones as 00.
-use Prim.Native.Nat.{◌≤◌}
 use Rattle.losses.specs.Losses.{without}
 use Rattle.stretch.specs.Stretch.{column_of}
 use Rattle.sums.specs.Sums.{Tails}
 use Rattle.sums.proofs.part_survivors.Given as goal
 
 abbrev pub invariant-loop-k : goal.invariant-loop-k
-invariant-loop-k l = (l.k ≤ l.g.n) × Tails l.g.n l.k (λ j. without l.x l.y (column_of l.g l.stripe l.i l.w j)) l.sums
-
-abbrev pub decreases-loop-k : goal.decreases-loop-k
-decreases-loop-k l = l.k
+invariant-loop-k l = Tails l.g.n l.k (λ j. without l.x l.y (column_of l.g l.stripe l.i l.w j)) l.sums

@@ -7,10 +7,10 @@ use Rattle.sums.proofs.set_page.Goals as goal
 pub loop-to-preserved : goal.loop-to-preserved
 loop-to-preserved c =
     let l = c.loop-to in
-    (omega (arith, c.pass_below-next.ensures.0, l.invariant.0), passed_on l.invariant.1 c.carry_page.ensures)
+    (omega (arith, c.saturating_sub-next.ensures, l.invariant.0), passed_on l.invariant.1 c.pass_over-in-loop-to.ensures)
 
 pub returns : goal.returns
 returns c =
     let l = c.loop-to in
     let done : l.to ≡ 0 = omega arith in
-    passed_all c.requires.0.disk (passed_on c.begin_page.ensures (rw done at l.invariant.1))
+    passed_all c.requires.0.disk (passed_on c.pass_over.ensures (rw done at l.invariant.1))

@@ -1,12 +1,9 @@
--- `sums::set_parities` meets its contract. The loop's invariant: the first m pages are encoded. The measure is what is left of them.
-use Prim.Native.Nat.{◌*◌, ◌-◌, ◌≤◌}
+-- `sums::set_parities` meets its contract. The loop's invariant: the first m pages are encoded.
+use Prim.Native.Nat.{◌*◌}
 use Rattle.column.specs.Column.{encode_column, reed_solomon}
 use Rattle.shape.specs.Columns.{ColumnsMapped}
 use Rattle.sums.specs.Passes.{page}
 use Rattle.sums.proofs.set_parities.Given as goal
 
 abbrev pub invariant-loop-m : goal.invariant-loop-m
-invariant-loop-m l = (l.m ≤ l.pages) × ColumnsMapped l.g 0 (page * l.m) (λ j c. encode_column reed_solomon l.g.n c) l.initial.stripe l.stripe
-
-abbrev pub decreases-loop-m : goal.decreases-loop-m
-decreases-loop-m l = l.pages - l.m
+invariant-loop-m l = ColumnsMapped l.g 0 (page * l.m) (λ j c. encode_column reed_solomon l.g.n c) l.initial.stripe l.stripe

@@ -40,11 +40,11 @@ returns-then-not-has_columns c = let a = c.args in no_sum a.g a.stripe.now a.i a
 
 pub loop-k-init : goal.loop-k-init
 unfolding total
-loop-k-init c = (omega arith, zeros)
+loop-k-init c = zeros
 
 pub loop-k-preserved : goal.loop-k-preserved
 loop-k-preserved c =
     let a = c.args in
     let l = c.loop-k in
     let e = column_of a.g a.stripe.now a.i a.w in
-    (omega arith, grind (arith, added a.x l.k e l.invariant.1, left_out a.x l.k e l.invariant.1))
+    grind (arith, added a.x l.k e l.invariant, left_out a.x l.k e l.invariant)

@@ -3,7 +3,7 @@ use mathlib.Core.Path.{sym, ◌∙◌}
 use Rattle.chunk.specs.Chunk.{width}
 use Rattle.stretch.proofs.Laws.{has}
 use Rattle.sums.proofs.Horner.{tails_none, tails_stored}
-use Rattle.sums.proofs.Runs.{within_all, runs_added}
+use Rattle.sums.proofs.Runs.{within_all, runs_added, lower_min, higher_max}
 use Rattle.sums.proofs.Zeros.{no_sums}
 use Rattle.sums.proofs.survivors.Goals as goal
 
@@ -14,7 +14,7 @@ pub returns : goal.returns
 returns c =
     let a = c.args in
     tails_stored a.g.n _
-    (runs_added a.x a.y (let a = c.args in has a.g a.stripe.now a.i width (sym c.has_columns.ensures ∙ c.if-not-has_columns.false)) c.lower.ensures c.higher.ensures (within_all c.add_above-k.ensures) (within_all c.add_above-k-2.ensures) c.add_disks.ensures
+    (runs_added a.x a.y (let a = c.args in has a.g a.stripe.now a.i width (sym c.has_columns.ensures ∙ c.if-not-has_columns.false)) (lower_min c.min.ensures) (higher_max c.max.ensures) (within_all c.add_above-k.ensures) (within_all c.add_above-k-2.ensures) c.add_disks.ensures
     (tails_none a.g.n _))
     c.load_but-d.ensures
     c.load_but-d-2.ensures

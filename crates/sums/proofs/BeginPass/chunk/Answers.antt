@@ -1,15 +1,15 @@
--- `sums::begin_chunk` meets its contract: the highest disk, those below it, and both sums put in their places.
+-- `Begin` meets its contract: the highest disk, those below it, and both sums put in their places.
 use borrow.Author.Rules.{elem_Fits}
 use mir.Syntax.{w8}
 use Rattle.sums.proofs.Passes.{chunk_begun, chunk_passed}
-use Rattle.sums.proofs.begin_chunk.Goals as goal
+use Rattle.sums.proofs.BeginPass.chunk.Goals as goal
 
 pub returns : goal.returns
 returns c =
     let d = c.chunk_at-d in
     let first = c.add_disk.ensures in
     let sums = c.add_disks in
-    let some = c.requires.1 in
+    let some = c.requires.2 in
     chunk_passed sums.new.sums some
     (chunk_begun d.result c.requires.0 some d.ensures (λ j. (elem_Fits w8 w8 d.result d.type_inv.0 j d.type_inv.1.1 tt).fits) first.0 first.1 sums.ensures)
     c.set_sums.ensures

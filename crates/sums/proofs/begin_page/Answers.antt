@@ -1,7 +1,0 @@
--- `sums::begin_page` meets its contract.
-use native.Mathlib.Omega.{arith}
-use Rattle.sums.proofs.Passes.{page_next}
-use Rattle.sums.proofs.begin_page.Goals as goal
-
-pub loop-m-preserved : goal.loop-m-preserved
-loop-m-preserved c = (omega arith, page_next c.requires.1 c.loop-m.invariant.1 (omega arith) c.begin_chunk.ensures)
