@@ -38,6 +38,9 @@ module _ {g : Geometry} {s : List ℕ} {keep : Bool} {before : List ℕ} where
   checked_none has =
       record { within = omega arith; summarized = sym (summary_none _); long = refl; kept = λ e. fill_none (has.whole e) }
 
+  pub checked_count : {room : List ℕ} {i k found : ℕ} → i ≡ k → CheckedBelow g s keep before room i found → CheckedBelow g s keep before room k found
+  checked_count {room} {found = found} same = subst (λ (i : ℕ). CheckedBelow g s keep before room i found) same
+
   pub checked_more : {room m : List ℕ} {c found v r at : ℕ} (i w : ℕ) → CheckedBelow g s keep before room c found → i ≤ c → c ≤ i + w → i + w ≤ g.b
       → at ≡ choose keep i 0
       → at + w ≤ length room

@@ -45,10 +45,7 @@ pub fn summary_of(g: Geometry, stripe: &[u8]) -> u16
 pub fn summary_refusal(summary: u16) -> Result<(), Refusal>
     ensures { number result ≡ choose (unclear summary) 9 0 }
 {
-    if summary == 3 {
-        return Err(Refusal::Unclear);
-    }
-    if summary == 4 {
+    if summary == 3 || summary == 4 {
         return Err(Refusal::Unclear);
     }
     Ok(())
@@ -62,7 +59,8 @@ pub fn repair_refusal(g: Geometry, stripe: &[u8]) -> Result<(), Refusal>
     summary_refusal(summary_of(g, stripe))
 }
 
-// Where the verdicts are not kept, those of a stretch go over those of the one before.
+// Where the verdicts are not kept, those of a stretch go over those of the one before. `keep` is a flag and no type of room, since
+// it says no more than `place` reads from it.
 fn check_into(g: Geometry, stripe: &[u8], room: &mut [u16], keep: bool) -> u16
     requires { WellShaped g stripe.now × RoomFor g keep room.old }
     ensures { CheckedInto g stripe.now keep result room.new }
@@ -87,12 +85,10 @@ fn check_strips(g: Geometry, stripe: &[u8], room: &mut [u16], keep: bool) -> u16
     ensures { CheckedInto g stripe.now keep result room.new }
 {
     let mut found = 0;
-    let mut done = 0;
-    while done < g.b {
+    for done in (0..g.b).step_by(STRIP) {
         let i = stretch::next_start(g.b, STRIP, done);
         let at = place(i, keep);
         found = verdict::joined(found, check_strip(g, stripe, i, &mut room[at..at + STRIP]));
-        done = i + STRIP;
     }
     found
 }
@@ -105,8 +101,7 @@ fn check_strip(g: Geometry, stripe: &[u8], i: usize, room: &mut [u16]) -> u16
     let mut q = [0u8; STRIP];
     sums::strip_survivors(g, stripe, i, g.n + 2, g.n + 2, &mut p, &mut q);
     let mut found = 0;
-    let mut m = 0;
-    while m < CHUNKS {
+    for m in 0..CHUNKS {
         let c = WIDTH * m;
         let a = chunk::load(&p[c..c + WIDTH]);
         let b = chunk::load(&q[c..c + WIDTH]);
@@ -114,7 +109,6 @@ fn check_strip(g: Geometry, stripe: &[u8], i: usize, room: &mut [u16]) -> u16
             found,
             verdict::verdicts_of(g.n, &a, &b, found, &mut room[c..c + WIDTH]),
         );
-        m += 1;
     }
     found
 }
@@ -124,13 +118,14 @@ fn check_columns(g: Geometry, stripe: &[u8], room: &mut [u16], keep: bool) -> u1
     ensures { CheckedInto g stripe.now keep result room.new }
 {
     let mut found = 0;
-    let mut i = 0;
-    while WIDTH <= g.b - i {
+    let chunks = g.b / WIDTH;
+    for m in 0..chunks {
+        let i = WIDTH * m;
         let at = place(i, keep);
         let next = check_chunk(g, stripe, i, found, &mut room[at..at + WIDTH]);
         found = verdict::joined(found, next);
-        i += WIDTH;
     }
+    let i = WIDTH * chunks;
     if i < g.b {
         let w = g.b - i;
         let at = place(i, keep);
@@ -150,6 +145,7 @@ fn check_chunk(g: Geometry, stripe: &[u8], i: usize, guess: u16, room: &mut [u16
     verdict::verdicts_of(g.n, &p, &q, guess, room)
 }
 
+// The same of fewer columns. The functions of a whole chunk know its width, and these do not.
 fn check_part(g: Geometry, stripe: &[u8], i: usize, room: &mut [u16]) -> u16
     requires { Has g stripe.now i (length room.old) }
     ensures { WithSummary (tabulate (length room.old) (λ j. verdict g.n (column g stripe.now (i + j)))) result room.new }

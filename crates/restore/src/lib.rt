@@ -69,16 +69,12 @@ fn restore_parities(g: Geometry, stripe: &mut [u8])
         return;
     }
     if sums::in_strips(g) {
-        let rule = Rule::Carried(Element(0));
-        restore_by(
-            g,
-            stripe,
-            StripByBoth {
-                x: g.n,
-                y: g.n + 1,
-                rule,
-            },
-        );
+        let step = StripByBoth {
+            x: g.n,
+            y: g.n + 1,
+            rule: Rule::Carried(Element(0)),
+        };
+        restore_by(g, stripe, step);
         return;
     }
     restore_columns(g, stripe, Plan::FromData(true));

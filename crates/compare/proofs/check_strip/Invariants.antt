@@ -1,6 +1,5 @@
--- `compare::check_strip` meets its contract. The loop's invariant: the verdicts of the first m chunks are given, and found is their summary. The
--- measure is what is left of the chunks.
-use Prim.Native.Nat.{◌+◌, ◌*◌, ◌-◌, ◌≤◌}
+-- `compare::check_strip` meets its contract. The loop's invariant: the verdicts of the first m chunks are given, and found is their summary.
+use Prim.Native.Nat.{◌+◌, ◌*◌}
 use Rattle.chunk.specs.Chunk.{width}
 use Rattle.column.specs.Column.{verdict}
 use Rattle.shape.specs.Layout.{column}
@@ -9,7 +8,4 @@ use Rattle.verdict.proofs.Summary.{FilledWithSummary}
 use Rattle.compare.proofs.check_strip.Given as goal
 
 abbrev pub invariant-loop-m : goal.invariant-loop-m
-invariant-loop-m l = (l.m ≤ 8) × FilledWithSummary (λ j. verdict l.g.n (column l.g l.stripe (l.i + j))) strip l.initial.room l.room (width * l.m) l.found
-
-abbrev pub decreases-loop-m : goal.decreases-loop-m
-decreases-loop-m l = 8 - l.m
+invariant-loop-m l = FilledWithSummary (λ j. verdict l.g.n (column l.g l.stripe (l.i + j))) strip l.initial.room l.room (width * l.m) l.found
