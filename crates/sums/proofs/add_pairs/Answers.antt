@@ -67,4 +67,4 @@ pub returns : goal.returns
 returns c =
     let l = c.loop-m in
     let same : c.args.to - 2 * l.m ≡ c.args.to % 2 = omega arith in
-    λ f agrees tails. c.add_disks.ensures f (λ j k p low high. agrees j k p low (omega arith)) (subst (λ (k : ℕ). Tails c.args.g.n k f l.p l.q) same (l.invariant.1 f (λ j k p low high. agrees j k p (omega arith) high) tails))
+    λ f agrees tails. c.add_disks.ensures f (λ j k p low high. agrees j k p low (omega arith)) (subst (λ (k : ℕ). Tails c.args.g.n k f l.sums) same (l.invariant.1 f (λ j k p low high. agrees j k p (omega arith) high) tails))

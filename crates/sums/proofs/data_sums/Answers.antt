@@ -1,6 +1,5 @@
 -- `sums::data_sums` meets its contract: the highest disk, and all disks below it.
 use borrow.Author.Rules.{elem_Fits}
-use mathlib.Core.Path.{sym, ◌∙◌}
 use mir.Syntax.{w8}
 use Rattle.sums.proofs.Runs.{all_added}
 use Rattle.sums.proofs.data_sums.Goals as goal
