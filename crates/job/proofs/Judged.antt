@@ -15,9 +15,10 @@ module _ {job : List ℕ} {asked : Result Command JobRefusal} (judged : Judged j
   judged_err {r} is e = job_refusal_number r (ap (λ (o : Result Command JobRefusal). job_number o) (sym is) ∙ judged.number ∙ e)
 
   pub judged_ok : {command : Command} → asked ≡ Ok command → (job_refusal job ≡ 0) × (command_code command ≡ command_of job)
-  judged_ok is =
-      (sym judged.number ∙ ap (λ (o : Result Command JobRefusal). job_number o) is,
-      subst (λ (o : Result Command JobRefusal). IfOk o (λ command. command_code command ≡ command_of job)) is judged.command)
+  judged_ok is = (
+    sym judged.number ∙ ap (λ (o : Result Command JobRefusal). job_number o) is,
+    subst (λ (o : Result Command JobRefusal). IfOk o (λ command. command_code command ≡ command_of job)) is judged.command,
+  )
 
 pub check_alone : (command : Command) → command_code command ≡ 3 → command ≡ Check
 check_alone Encode e = absurd (omega arith)
