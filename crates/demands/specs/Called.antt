@@ -9,7 +9,7 @@ use Rattle.column.specs.declared.Lost.TheVariants.{One}
 use Rattle.column.specs.Column.{reed_solomon}
 use Rattle.column.specs.Loss.{Spared, KnownLoss}
 use Rattle.shape.specs.declared.Geometry.{Geometry}
-use Rattle.std.specs.Prelude.{Option, Some}
+use Rattle.std.specs.Prelude.{Some}
 use Rattle.shape.specs.Layout.{column}
 use Rattle.devices.specs.Codes.{naming_of}
 use Rattle.write.specs.Write.{WriteCall}

@@ -8,7 +8,7 @@ use Rattle.column.specs.declared.Lost.TheVariants.{One}
 use Rattle.column.specs.Column.{reed_solomon}
 use Rattle.column.specs.Loss.{KnownLoss, overwrite}
 use Rattle.shape.specs.declared.Geometry.{Geometry}
-use Rattle.std.specs.Prelude.{Option, Some}
+use Rattle.std.specs.Prelude.{Option}
 use Rattle.shape.specs.Layout.{column, lift}
 use Rattle.shape.specs.Refusals.{write_refusal}
 use Rattle.devices.specs.Refusals.{rebuild_refusal}

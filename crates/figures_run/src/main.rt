@@ -11,7 +11,6 @@ use gf256::{Element, Inverse, Logarithm};
 use header::LIMIT;
 use shape::Geometry;
 use std::io;
-use stripe::Checked;
 
 fn main(rt: HostRuntime) -> io::Result<()> {
     print(&rt, b"case", b"expected", b"got", b"ok")?;
@@ -284,7 +283,7 @@ fn encoded(s: &mut [u8]) -> [u8; 17]
     requires { 2 ≤ length s.old }
 {
     let n = s.len() - 2;
-    let result = stripe::encode(Geometry { n, b: 1 }, s);
+    let result = shape::number(stripe::encode(Geometry { n, b: 1 }, s));
     if result != 0 {
         return refusal(result);
     }
@@ -304,7 +303,7 @@ fn last_column(b: usize, s: &mut [u8]) -> [u8; 17]
     requires { b < length s.old }
 {
     let last = s.len() - 1;
-    let result = stripe::encode(Geometry { n: 2, b }, s);
+    let result = shape::number(stripe::encode(Geometry { n: 2, b }, s));
     if result != 0 {
         return refusal(result);
     }
@@ -319,7 +318,7 @@ fn last_disk() -> [u8; 17] {
 
 fn written() -> [u8; 17] {
     let mut s = [0x01, 0x02, 0x04, 0x07, 0x15];
-    let result = write::write(Geometry { n: 3, b: 1 }, &mut s, 1, 0, b"\x80");
+    let result = shape::number(write::write(Geometry { n: 3, b: 1 }, &mut s, 1, 0, b"\x80"));
     if result != 0 {
         return refusal(result);
     }
@@ -366,11 +365,8 @@ fn answered(bytes: &[u8], len: usize) -> [u8; 17]
 
 fn two_lost() -> [u8; 17] {
     let mut s = [0xff, 0x02, 0xff, 0x07, 0x15];
-    let result = stripe::rebuild(
-        Geometry { n: 3, b: 1 },
-        &mut s,
-        Lost::Two(Device::Data(0), Device::Data(2)),
-    );
+    let lost = Lost::Two(Device::Data(0), Device::Data(2));
+    let result = shape::number(stripe::rebuild(Geometry { n: 3, b: 1 }, &mut s, lost));
     if result != 0 {
         return refusal(result);
     }
@@ -380,8 +376,8 @@ fn two_lost() -> [u8; 17] {
 fn verdict(s: [u8; 5]) -> [u8; 17] {
     let mut verdicts = [0u16; 1];
     match stripe::check(Geometry { n: 3, b: 1 }, &s, &mut verdicts) {
-        Checked::Refused(n) => refusal(n),
-        Checked::Summary(_) => numbered(*b"verdict          ", verdicts[0]),
+        Err(reason) => refusal(u8::from(reason)),
+        Ok(_) => numbered(*b"verdict          ", verdicts[0]),
     }
 }
 
@@ -394,15 +390,15 @@ fn summary_with(place: usize) -> [u8; 17]
     s[place] = 1;
     let mut verdicts = [0u16; 10];
     match stripe::check(Geometry { n: 8, b: 10 }, &s, &mut verdicts) {
-        Checked::Refused(n) => refusal(n),
-        Checked::Summary(v) => numbered(*b"summary          ", v),
+        Err(reason) => refusal(u8::from(reason)),
+        Ok(v) => numbered(*b"summary          ", v),
     }
 }
 
 // The stripe after its repair, or the refusal if nothing has changed.
 fn repaired(n: usize, b: usize, s: [u8; 8]) -> [u8; 17] {
     let mut after = s;
-    let result = stripe::repair(Geometry { n, b }, &mut after);
+    let result = shape::number(stripe::repair(Geometry { n, b }, &mut after));
     if result == 0 {
         return blocks(after);
     }

@@ -19,6 +19,7 @@ pub const LIMIT: usize = 61440;
 
 // What a job begins with, and its version.
 const MARK: [u8; 3] = *b"SRJ";
+
 const VERSION: usize = 1;
 
 // What a job asks for. Its code is the header's command byte.

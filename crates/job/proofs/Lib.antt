@@ -1,3 +1,4 @@
 pub mod Bodies
 pub mod Answers
 pub mod Exchanged
+pub mod Judged

@@ -2,23 +2,29 @@
 // number that is passed is 64 bits wide, and no premise is put on the caller.
 #![tactic(auto)]
 
+ghost use Rattle.std.specs.Prelude.{◌≡◌};
 ghost use Rattle.stripe.specs.Calls.{EncodeCall, RebuildNamedCall, RepairCall};
 ghost use Rattle.write.specs.Write.{WriteCall};
 ghost use Rattle.shape.specs.Layout.{geometry};
 ghost use Rattle.shelf.specs.Check.{ShelfCheckCall};
 
 use shape::Geometry;
-use stripe::Checked;
+
+// What C's two numbers describe.
+fn geometry(n: u64, b: u64) -> Geometry
+    ensures { result ≡ geometry n b }
+{
+    Geometry {
+        n: n as usize,
+        b: b as usize,
+    }
+}
 
 #[unsafe(no_mangle)]
 pub extern "C" fn shelf_encode(n: u64, b: u64, stripe: &mut [u8]) -> u8
     ensures { EncodeCall (geometry n b) stripe.old result stripe.new }
 {
-    let g = Geometry {
-        n: n as usize,
-        b: b as usize,
-    };
-    stripe::encode(g, stripe)
+    shape::number(stripe::encode(geometry(n, b), stripe))
 }
 
 #[unsafe(no_mangle)]
@@ -32,22 +38,16 @@ pub extern "C" fn shelf_write(
 ) -> u8
     ensures { WriteCall (geometry n b) disk offset bytes.now stripe.old result stripe.new }
 {
-    let g = Geometry {
-        n: n as usize,
-        b: b as usize,
-    };
-    write::write(g, stripe, disk as usize, offset as usize, bytes)
+    let g = geometry(n, b);
+    shape::number(write::write(g, stripe, disk as usize, offset as usize, bytes))
 }
 
 #[unsafe(no_mangle)]
 pub extern "C" fn shelf_rebuild(n: u64, b: u64, stripe: &mut [u8], first: u64, second: u64) -> u8
     ensures { RebuildNamedCall (geometry n b) first second stripe.old result stripe.new }
 {
-    let g = Geometry {
-        n: n as usize,
-        b: b as usize,
-    };
-    stripe::rebuild_named(g, stripe, first as usize, second as usize)
+    let g = geometry(n, b);
+    shape::number(stripe::rebuild_named(g, stripe, first as usize, second as usize))
 }
 
 #[unsafe(no_mangle)]
@@ -60,16 +60,12 @@ pub extern "C" fn shelf_check(
 ) -> u8
     ensures { ShelfCheckCall (geometry n b) stripe.now verdicts.old summary.old result verdicts.new summary.new }
 {
-    let g = Geometry {
-        n: n as usize,
-        b: b as usize,
-    };
-    match stripe::check(g, stripe, verdicts) {
-        Checked::Refused(k) => k,
-        Checked::Summary(v) => {
-            *summary = v;
+    match stripe::check(geometry(n, b), stripe, verdicts) {
+        Ok(found) => {
+            *summary = found;
             0
         }
+        Err(refusal) => u8::from(refusal),
     }
 }
 
@@ -77,9 +73,5 @@ pub extern "C" fn shelf_check(
 pub extern "C" fn shelf_repair(n: u64, b: u64, stripe: &mut [u8]) -> u8
     ensures { RepairCall (geometry n b) stripe.old result stripe.new }
 {
-    let g = Geometry {
-        n: n as usize,
-        b: b as usize,
-    };
-    stripe::repair(g, stripe)
+    shape::number(stripe::repair(geometry(n, b), stripe))
 }
