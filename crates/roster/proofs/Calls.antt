@@ -16,10 +16,10 @@ use Rattle.roster.specs.declared.FaultyLine.{FaultyLine}
 use Rattle.roster.specs.declared.WriteError.{WriteError}
 use Rattle.roster.specs.declared.WriteError.TheVariants.{NoRoom}
 use Rattle.roster.specs.Text.{roster_text, line_ends}
-use Rattle.roster.specs.Calls.{done, refused_line, written_of, read_answer, as_line, room_answer, judge_answer, write_answer, begun_with, ReadCall, WriteCall}
+use Rattle.roster.specs.Calls.{done, faulty_answer, written_of, read_answer, as_line, room_answer, judge_answer, write_answer, begun_with, ReadCall, WriteCall}
 
 module _ {text before : List ℕ} where
-  pub read_left : (f : FaultyLine) → read_answer text ≡ refused_line f → ReadCall text before (Err f) before
+  pub read_left : (f : FaultyLine) → read_answer text ≡ faulty_answer f → ReadCall text before (Err f) before
   read_left f e =
       record {
         answer = sym e;

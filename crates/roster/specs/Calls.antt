@@ -13,16 +13,16 @@ use Rattle.roster.specs.Text.{roster_text, line_ends}
 abbrev pub done : ℕ → Answer
 done n = record { number = 0; values = n ∷ [] }
 
-abbrev pub refused_line : FaultyLine → Answer
-refused_line e = refused_at (number_of e.fault) e.line
+abbrev pub faulty_answer : FaultyLine → Answer
+faulty_answer e = refused_at (number_of e.fault) e.line
 
 abbrev pub read_of : Result ℕ FaultyLine → Answer
 read_of (Ok n) = done n
-read_of (Err e) = refused_line e
+read_of (Err e) = faulty_answer e
 
 abbrev pub written_of : Result ℕ WriteError → Answer
 written_of (Ok n) = done n
-written_of (Err (Faulty e)) = refused_line e
+written_of (Err (Faulty e)) = faulty_answer e
 written_of (Err NoRoom) = refused_at 35 0
 
 -- ---- the reader
