@@ -1,14 +1,20 @@
 -- Every answer has seven bytes.
 -- Assumes nothing.
 use mathlib.Core.Path.{◌≡◌, refl}
+use Prim.Native.Nat.{◌+◌}
 use lib.ListN.{length}
-use Rattle.findings.specs.declared.Finding.TheVariants.{Fit, Singular, Pair}
+use Rattle.std.specs.Prelude.{Result, Ok, Err, Some, None}
+use Rattle.findings.specs.Findings.{Finding}
+use Rattle.findings.specs.declared.Flaw.TheVariants.{Singular, Pair}
 use Rattle.bitmatrix.specs.declared.Judgement.{Judgement}
-use Rattle.bitmatrix.specs.declared.Judgement.TheVariants.{Refused, Judged}
-use Rattle.judge_answer.specs.Answer.{answer_bytes}
+use Rattle.bitmatrix.specs.declared.Refusal.{Refusal}
+use Rattle.judge_answer.specs.Answer.{finding_bytes, answer_bytes}
 
-pub length_answer : (j : Judgement) → length (answer_bytes j) ≡ 7
-length_answer (Refused n) = refl
-length_answer (Judged Fit n d) = refl
-length_answer (Judged (Singular i) n d) = refl
-length_answer (Judged (Pair i j) n d) = refl
+pub length_answer : (r : Result Judgement Refusal) → length (answer_bytes r) ≡ 7
+length_answer (Err r) = refl
+length_answer (Ok j) = go j.finding
+  where
+    go : (g : Finding) → length (answer_bytes (Ok record { finding = g; ones = j.ones; minimal = j.minimal })) ≡ 7
+    go None = refl
+    go (Some (Singular i)) = refl
+    go (Some (Pair i k)) = refl

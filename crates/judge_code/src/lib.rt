@@ -1,43 +1,31 @@
 // Reads a code: eight matrices of eight row bytes, one after the other.
 #![tactic(auto)]
 
-ghost use Rattle.std.specs.Prelude.{◌≡◌, ◌+◌, ◌≤◌, length};
+ghost use Rattle.std.specs.Prelude.{◌≡◌, ◌+◌, ◌*◌, ◌<◌, ◌≤◌, length};
 ghost use Rattle.judge_code.specs.Code.{matrix_at, code_at};
 
+use findings::Code;
+use matrix::Matrix;
+use std::array;
+
 // Where no whole code stands, one of 00.
-pub fn code_at(s: &[u8], at: usize) -> [[u8; 8]; 8]
+pub fn code_at(s: &[u8], at: usize) -> Code
     ensures { result ≡ code_at s.now at }
 {
-    if s.len() < 64 {
+    if s.len() < 64 || s.len() - 64 < at {
         return [[0; 8]; 8];
     }
-    if s.len() - 64 < at {
-        return [[0; 8]; 8];
-    }
-    [
-        matrix_at(s, at),
-        matrix_at(s, at + 8),
-        matrix_at(s, at + 16),
-        matrix_at(s, at + 24),
-        matrix_at(s, at + 32),
-        matrix_at(s, at + 40),
-        matrix_at(s, at + 48),
-        matrix_at(s, at + 56),
-    ]
+    array::from_fn(|m|
+        requires { (m < 8) × (at + 64 ≤ length s.now) }
+        ensures { result ≡ matrix_at s.entry.now (at + 8 * m) }
+    {
+        matrix_at(s, at + 8 * m)
+    })
 }
 
-fn matrix_at(s: &[u8], at: usize) -> [u8; 8]
+fn matrix_at(s: &[u8], at: usize) -> Matrix
     requires { at + 8 ≤ length s.now }
     ensures { result ≡ matrix_at s.now at }
 {
-    [
-        s[at],
-        s[at + 1],
-        s[at + 2],
-        s[at + 3],
-        s[at + 4],
-        s[at + 5],
-        s[at + 6],
-        s[at + 7],
-    ]
+    array::from_fn(|r| s[at + r])
 }

@@ -10,38 +10,23 @@ ghost use Rattle.judge_records.specs.Records.{answer_at, JudgeAllCall};
 pub fn judge_all(codes: &[u8], out: &mut [u8]) -> usize
     ensures { JudgeAllCall codes.now out.old result out.new }
 {
-    let count = least(codes.len() / 65, out.len() / 7);
-    let mut k = 0;
-    while k < count {
+    let count = (codes.len() / 65).min(out.len() / 7);
+    for k in 0..count {
         put(out, 7 * k, judge_at(codes, 65 * k));
-        k += 1;
     }
     7 * count
-}
-
-fn least(a: usize, b: usize) -> usize
-    ensures { result ≡ min a b }
-{
-    if a < b { a } else { b }
 }
 
 fn put(out: &mut [u8], at: usize, answer: [u8; 7])
     requires { at + 7 ≤ length out.old }
     ensures { out.new ≡ spliced out.old at answer }
 {
-    let end = at + 7;
-    out[at..end].copy_from_slice(&answer);
+    out[at..at + 7].copy_from_slice(&answer);
 }
 
 fn judge_at(codes: &[u8], at: usize) -> [u8; 7]
     requires { at + 65 ≤ length codes.now }
     ensures { result ≡ answer_at codes.now at }
 {
-    judge_answer::answer(bitmatrix::judge(judge_code::code_at(codes, at + 1), wide(codes[at])))
-}
-
-fn wide(x: u8) -> usize
-    ensures { result ≡ x }
-{
-    x as usize
+    judge_answer::answer(bitmatrix::judge(judge_code::code_at(codes, at + 1), usize::from(codes[at])))
 }
