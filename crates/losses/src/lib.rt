@@ -23,7 +23,8 @@ pub enum Rule {
 pub enum Plan {
     // One role by equation 1 alone.
     ByP(usize),
-    // Q as the data give it and, where true, P.
+    // Q as the data give it and, where true, P. It stays a flag: what goes by it makes one test, and for two
+    // plans there would be two of each of those functions.
     FromData(bool),
     // Two roles, the first of them data, by both sums and a rule.
     ByBoth(usize, usize, Rule),
