@@ -155,6 +155,10 @@ module _ (g : Geometry) (s : List ℕ) (role i w : ℕ) where
       let parts = both_true (has_columns g (length s) i w) (ltb role (g.n + 2)) e in
       (has g s i w parts.0, ltb-true role (g.n + 2) parts.1)
 
+  -- its bytes lie in the buffer
+  pub stretch_ends : has_stretch g (length s) role i w ≡ true → {p : ℕ} → p ≡ low_start g role → p + i + w ≤ length s
+  stretch_ends e is = let h = stretch e in ends h.0 h.1 is
+
   pub no_stretch : has_stretch g (length s) role i w ≡ false → replicate width 0 ≡ each (λ j. column_of g s i w j role)
   no_stretch = go (has_columns g (length s) i w) refl
     where

@@ -3,20 +3,21 @@ use mathlib.Core.Path.{sym, ◌∙◌}
 use Prim.Native.Nat.{◌+◌}
 use native.Mathlib.Omega.{arith}
 use borrow.Rule.Slice.PartMut.{Post-is}
-use Rattle.stretch.proofs.Laws.{stretch, ends, set_there}
+use Rattle.stretch.proofs.Laws.{stretch, stretch_ends, set_there}
 use Rattle.stretch.proofs.set.Goals as goal
 
 pub overflow_add-at : goal.overflow_add-at
-overflow_add-at c = omega (arith, (ends (let a = c.args in stretch a.g a.stripe.now a.role a.i a.w (sym c.has_stretch.ensures ∙ c.if-not-has_stretch.false)).0 (let a = c.args in stretch a.g a.stripe.now a.role a.i a.w (sym c.has_stretch.ensures ∙ c.if-not-has_stretch.false)).1 c.start.ensures))
+overflow_add-at c = omega (arith, (let a = c.args in stretch_ends a.g a.stripe.now a.role a.i a.w (sym c.has_stretch.ensures ∙ c.if-not-has_stretch.false) c.start.ensures))
 
 pub overflow_add-at-2 : goal.overflow_add-at-2
-overflow_add-at-2 c = omega (arith, (ends (let a = c.args in stretch a.g a.stripe.now a.role a.i a.w (sym c.has_stretch.ensures ∙ c.if-not-has_stretch.false)).0 (let a = c.args in stretch a.g a.stripe.now a.role a.i a.w (sym c.has_stretch.ensures ∙ c.if-not-has_stretch.false)).1 c.start.ensures))
+overflow_add-at-2 c = omega (arith, (let a = c.args in stretch_ends a.g a.stripe.now a.role a.i a.w (sym c.has_stretch.ensures ∙ c.if-not-has_stretch.false) c.start.ensures))
 
 pub slice_bounds-store-end : goal.slice_bounds-store-end
-slice_bounds-store-end c = (ends (let a = c.args in stretch a.g a.stripe.now a.role a.i a.w (sym c.has_stretch.ensures ∙ c.if-not-has_stretch.false)).0 (let a = c.args in stretch a.g a.stripe.now a.role a.i a.w (sym c.has_stretch.ensures ∙ c.if-not-has_stretch.false)).1 c.start.ensures)
+slice_bounds-store-end c = let a = c.args in stretch_ends a.g a.stripe.now a.role a.i a.w (sym c.has_stretch.ensures ∙ c.if-not-has_stretch.false) c.start.ensures
 
 pub returns : goal.returns
 returns c =
     let a = c.args in
     let at = c.start.result + a.i in
-    set_there (let a = c.args in stretch a.g a.stripe.now a.role a.i a.w (sym c.has_stretch.ensures ∙ c.if-not-has_stretch.false)).0 (let a = c.args in stretch a.g a.stripe.now a.role a.i a.w (sym c.has_stretch.ensures ∙ c.if-not-has_stretch.false)).1 c.start.ensures a.new c.store.ensures (Post-is at (at + a.w) a.stripe.now (omega arith))
+    let h = stretch a.g a.stripe.now a.role a.i a.w (sym c.has_stretch.ensures ∙ c.if-not-has_stretch.false) in
+    set_there h.0 h.1 c.start.ensures a.new c.store.ensures (Post-is at (at + a.w) a.stripe.now (omega arith))
