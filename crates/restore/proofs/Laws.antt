@@ -17,7 +17,7 @@ use Rattle.shape.specs.Layout.{lift}
 use Rattle.shape.specs.Refusals.{WellShaped}
 use Rattle.shape.specs.Columns.{ColumnsMapped}
 use Rattle.shape.proofs.Accepts.{shape_accepts}
-use Rattle.shape.proofs.Columns.{columns_none, columns_count, columns_again, columns_all}
+use Rattle.shape.proofs.Columns.{columns_count, columns_again, columns_all}
 use Rattle.chunk.specs.Chunk.{width}
 use Rattle.stretch.specs.Stretch.{Has}
 use Rattle.sums.specs.Strip.{strip, HasStrip}
@@ -39,9 +39,6 @@ pub record Begun (g : Geometry) (plan : Plan) (done : ℕ) (s t : List ℕ) : Ty
   pub columns : ColumnsMapped g 0 (min done g.b) (λ j c. restored_by g.n plan c) s t
 
 module _ {g : Geometry} {plan : Plan} {s : List ℕ} where
-  pub begun_none : Begun g plan 0 s s
-  begun_none = record { columns = columns_count (omega arith) columns_none }
-
   -- w columns more, of which the first may have been restored before
   pub begun_next : {w done i : ℕ} {t u : List ℕ} → w ≤ g.b → done < g.b → i ≡ min done (g.b - w) → Begun g plan done s t
       → ColumnsMapped g i w (λ j c. restored_by g.n plan c) t u
