@@ -1,7 +1,7 @@
 // The bytes that answer a judgement of the judge of bit-matrix codes.
 #![tactic(auto)]
 
-ghost use Rattle.std.specs.Prelude.{◌≡◌};
+ghost use Rattle.std.specs.Prelude.{◌≡◌, ◌%◌};
 ghost use Rattle.judge_answer.specs.Answer.{answer_bytes};
 
 use bitmatrix::{Judgement, Refusal};
@@ -18,9 +18,15 @@ pub fn answer(judged: Result<Judgement, Refusal>) -> [u8; 7]
             let least = u8::from(judgement.minimal);
             match judgement.finding {
                 None => [0, 0, 0, 0, high, low, least],
-                Some(Flaw::Singular(i)) => [0, 1, (i % 256) as u8, 0, high, low, least],
-                Some(Flaw::Pair(i, j)) => [0, 2, (i % 256) as u8, (j % 256) as u8, high, low, least],
+                Some(Flaw::Singular(i)) => [0, 1, place(i), 0, high, low, least],
+                Some(Flaw::Pair(i, j)) => [0, 2, place(i), place(j), high, low, least],
             }
         }
     }
+}
+
+fn place(i: usize) -> u8
+    ensures { result ≡ i % 256 }
+{
+    (i % 256) as u8
 }

@@ -15,12 +15,12 @@ pub fn code_at(s: &[u8], at: usize) -> Code
     if s.len() < 64 || s.len() - 64 < at {
         return [[0; 8]; 8];
     }
-    array::from_fn(|m|
-        requires { (m < 8) × (at + 64 ≤ length s.now) }
-        ensures { result ≡ matrix_at s.entry.now (at + 8 * m) }
-    {
-        matrix_at(s, at + 8 * m)
-    })
+    array::from_fn(
+        |m|
+            requires { (m < 8) × (at + 64 ≤ length s.now) }
+            ensures { result ≡ matrix_at s.entry.now (at + 8 * m) }
+        { matrix_at(s, at + 8 * m) },
+    )
 }
 
 fn matrix_at(s: &[u8], at: usize) -> Matrix

@@ -28,5 +28,8 @@ fn judge_at(codes: &[u8], at: usize) -> [u8; 7]
     requires { at + 65 ≤ length codes.now }
     ensures { result ≡ answer_at codes.now at }
 {
-    judge_answer::answer(bitmatrix::judge(judge_code::code_at(codes, at + 1), usize::from(codes[at])))
+    judge_answer::answer(bitmatrix::judge(
+        judge_code::code_at(codes, at + 1),
+        usize::from(codes[at]),
+    ))
 }
