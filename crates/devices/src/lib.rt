@@ -5,7 +5,7 @@
 ghost use Rattle.std.specs.Prelude.{◌≡◌};
 ghost use Rattle.base.specs.Refusal.{first_of};
 ghost use Rattle.shape.specs.Number.{number};
-ghost use Rattle.devices.specs.Refusals.{loss_refusals, unknown, same_device, rebuild_refusal};
+ghost use Rattle.devices.specs.Refusals.{loss_refusals, rebuild_refusal};
 ghost use Rattle.devices.specs.Codes.{named_by, loss_of, naming_of, no_devices, named_refusal};
 
 use column::{Device, Lost};
