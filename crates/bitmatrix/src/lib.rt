@@ -37,7 +37,8 @@ fn ones_of(code: &[Matrix]) -> usize
     code.iter().map(|m| matrix::weight_of(*m)).sum()
 }
 
-// Judges the matrices at the first count places; what stands at the others changes nothing.
+// Judges the matrices at the first count places; what stands at the others changes nothing. The code comes by value with its count
+// beside it, as docs/CLAIMS.md promises: a slice could not say what stands at the other places.
 pub fn judge(code: Code, count: usize) -> Result<Judgement, Refusal>
     ensures { Judges code count result }
 {

@@ -40,7 +40,7 @@ fn first_pair(code: &[Matrix]) -> Option<Flaw>
     (0..code.len()).find_map(|i| first_partner(code, i))
 }
 
-// What is wrong with the matrices at the first count places, of which a code has eight.
+// What is wrong with the matrices at the first count places, of which a code has eight. The edit `seven_of_nine` asks it of nine.
 pub fn find(code: Code, count: usize) -> Option<Flaw>
     ensures { result ≡ finding code (min count 8) }
 {

@@ -223,7 +223,8 @@ impl Step for StripByBoth {
     ghost some = { Prim.search rules };
 }
 
-// The first is a p + b q, the second what is left of p.
+// The first is a p + b q, the second what is left of p. `set_solved` is not called here: this is faster for a chunk
+// (docs/DECISIONS.md).
 fn set_mixed(
     g: Geometry,
     stripe: &mut [u8],
@@ -245,7 +246,7 @@ fn set_mixed(
     stretch::set(g, stripe, x, i, WIDTH, first);
 }
 
-// The first is p, the second q + c p.
+// The first is p, the second q + c p. Apart from `set_solved` for the same reason.
 fn set_carried(g: Geometry, stripe: &mut [u8], i: usize, x: usize, y: usize, c: Element, s: Sums)
     requires { Has g stripe.old i width × (x < g.n + 2) × (y < g.n + 2) × (s ≡ sums_of g.n (λ j. without x y (column_of g stripe.old i width j))) }
     ensures { ColumnsMapped g i width (λ j c'. solved g.n x y (Rule.Carried c) c') stripe.old stripe.new }
