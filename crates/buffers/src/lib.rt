@@ -11,7 +11,8 @@ pub const INPUT: usize = 14 + LIMIT + 1;
 // The six bytes and the longest stripe, or a shorter report.
 pub const OUTPUT: usize = 6 + LIMIT;
 
-// Answers the bytes read into the input. The output has room for every answer.
+// Answers the bytes read into the input. The output has room for every answer. The count stands beside the array, and no slice for
+// both, since docs/CLAIMS.md promises both sizes for any count.
 pub fn answer_input(input: &[u8; INPUT], read: usize, output: &mut [u8; OUTPUT]) -> usize
     ensures { AnswerInputCall input.now read output.old result output.new }
 {
