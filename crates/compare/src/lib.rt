@@ -145,7 +145,8 @@ fn check_chunk(g: Geometry, stripe: &[u8], i: usize, guess: u16, room: &mut [u16
     verdict::verdicts_of(g.n, &p, &q, guess, room)
 }
 
-// The same of fewer columns. The functions of a whole chunk know its width, and these do not.
+// The same of fewer columns. The functions of a whole chunk know its width, and these do not. A part without differences is told
+// by one test here too: a second caller of `verdicts_of` would set it apart from the loop over the chunks.
 fn check_part(g: Geometry, stripe: &[u8], i: usize, room: &mut [u16]) -> u16
     requires { Has g stripe.now i (length room.old) }
     ensures { WithSummary (tabulate (length room.old) (λ j. verdict g.n (column g stripe.now (i + j)))) result room.new }
@@ -153,5 +154,9 @@ fn check_part(g: Geometry, stripe: &[u8], i: usize, room: &mut [u16]) -> u16
     let s = sums::part_survivors(g, stripe, i, room.len(), g.n + 2, g.n + 2);
     let p = s.p;
     let q = s.q;
+    if chunk::are_zero(&p, &q) {
+        room.fill(0);
+        return 0;
+    }
     verdict::verdicts_by_place(g.n, &p, &q, 0, room)
 }

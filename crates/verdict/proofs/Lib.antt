@@ -2,3 +2,4 @@ pub mod Summary
 pub mod Agreement
 pub mod Common
 pub mod Divided
+pub mod Zeros
