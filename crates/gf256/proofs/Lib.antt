@@ -1,4 +1,3 @@
-pub mod Arms
 pub mod Check
 pub mod Xor
 pub mod Additive
