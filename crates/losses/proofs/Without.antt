@@ -1,14 +1,14 @@
 -- A column without two roles: 00 at these, and what it was at every other. So the sums of such a column are those of the plan, where none is
 -- lost or both parities are; and what is solved from them is the plan's.
 -- Assumes nothing.
-use mathlib.Core.Path.{◌≡◌, refl, ap, ap₂, ◌∙◌}
+use mathlib.Core.Path.{◌≡◌, refl, sym, ap, ap₂, ◌∙◌}
 use mathlib.Core.Logic.{◌≢◌, ◌⊎◌, inl, inr}
-use mathlib.Core.Bool.{Bool, true, false}
+use mathlib.Core.Bool.{Bool, true, false, true≢false}
 use Prim.Native.Nat.{ℕ, ◌+◌, ◌≤◌}
 use native.Mathlib.Omega.{arith}
 use borrow.Author.Tests.{eq-eqb}
 use lib.Dec.{eqb}
-use Rattle.base.specs.Choice.{choose}
+use Rattle.base.specs.Choice.{choose, either}
 use Rattle.gf256.specs.Field.{element, sum, product}
 use Rattle.gf256.proofs.Laws.{zero_sum}
 use Rattle.column.specs.Column.{Column, put, parity_p, parity_q, syndrome_p, syndrome_q, reed_solomon}
@@ -16,7 +16,7 @@ use Rattle.column.proofs.Put.{put_other}
 use Rattle.column.proofs.Total.{total_same}
 use Rattle.losses.specs.declared.Rule.{Rule}
 use Rattle.losses.specs.declared.Rule.TheVariants.{Mixed, Carried}
-use Rattle.losses.specs.Losses.{solution, without, solved}
+use Rattle.losses.specs.Losses.{is_one_of, solution, without, solved}
 
 module _ (x y : ℕ) (c : Column) where
   pub without_other : (r : ℕ) → r ≢ x → r ≢ y → without x y c r ≡ c r
@@ -29,6 +29,14 @@ module _ (x y : ℕ) (c : Column) where
       either_way : (b : Bool) → ◌≡◌ {A = ℕ} (choose b 0 0) 0
       either_way true = refl
       either_way false = refl
+
+  pub lost_zero : (r : ℕ) → is_one_of (record { x = x; y = y }) r ≡ true → without x y c r ≡ 0
+  lost_zero r = go (eqb r x) (eqb r y)
+    where
+      go : (a b : Bool) → either a b ≡ true → choose a 0 (choose b 0 (c r)) ≡ 0
+      go true b e = refl
+      go false true e = refl
+      go false false e = absurd (true≢false (sym e))
 
   -- the sums over the data where no data disk is lost
   module _ (n : ℕ) (hx : n ≤ x) (hy : n ≤ y) where

@@ -1,10 +1,12 @@
 -- What a plan does to a column: take the lost roles as 00, take P* and Q* of that column, and solve them for the lost bytes by a rule; parities
 -- alone are recomputed. Equations are numbered as in the paper.
-use Rattle.std.specs.Prelude.{ℕ, ◌+◌, ◌<◌, true, false, get_or}
+use Rattle.std.specs.Prelude.{ℕ, ◌+◌, ◌<◌, Bool, true, false, eqb, get_or}
+use Rattle.base.specs.Choice.{either}
 use Rattle.gf256.specs.Field.{sum, product}
 use Rattle.column.specs.Column.{Column, TwoBytes, put, total, parity_q, syndrome_p, syndrome_q, encode_column, reed_solomon}
 use Rattle.chunk.specs.Chunk.{each}
 use Rattle.chunk.specs.declared.Sums.{Sums}
+use Rattle.losses.specs.declared.Pair.{Pair}
 use Rattle.losses.specs.declared.Rule.{Rule}
 use Rattle.losses.specs.declared.Rule.TheVariants.{Mixed, Carried}
 use Rattle.losses.specs.declared.Plan.{Plan}
@@ -24,6 +26,10 @@ solutions rule s =
       first = each (λ j. (solution rule (get_or s.p j 0) (get_or s.q j 0)).first);
       second = each (λ j. (solution rule (get_or s.p j 0) (get_or s.q j 0)).second);
     }
+
+-- a role is one of two
+abbrev pub is_one_of : Pair → ℕ → Bool
+is_one_of pair role = either (eqb role pair.x) (eqb role pair.y)
 
 -- what stood on the roles x and y taken as 00
 abbrev pub without : ℕ → ℕ → Column → Column

@@ -3,10 +3,26 @@
 #![tactic(auto)]
 
 ghost use Rattle.std.specs.Prelude.{◌≡◌};
-ghost use Rattle.losses.specs.Losses.{solutions};
+ghost use Rattle.losses.specs.Losses.{is_one_of, solutions};
 
 use chunk::{Sums, WIDTH};
 use gf256::Element;
+
+// Two lost roles. What asks for sums without fewer gives one twice, or such as no stripe has.
+#[derive(Clone, Copy)]
+pub struct Pair {
+    pub x: usize,
+    pub y: usize,
+}
+
+impl Pair {
+    // Whether a role is one of them.
+    pub fn has(self, role: usize) -> bool
+        ensures { result ≡ is_one_of self role }
+    {
+        role == self.x || role == self.y
+    }
+}
 
 // How the bytes of two lost roles come from P* and Q*, here p and q.
 #[derive(Clone, Copy)]

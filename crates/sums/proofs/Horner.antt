@@ -16,7 +16,7 @@ use Rattle.column.specs.Column.{Column, total, parity_p, parity_q, reed_solomon}
 use Rattle.column.proofs.Total.{total_same, total_map, total_front, total_lt}
 use Rattle.stretch.proofs.Laws.{zeros}
 use Rattle.chunk.specs.declared.Sums.{Sums}
-use Rattle.sums.specs.Sums.{sums_of, tail_p, tail_q, Tails}
+use Rattle.sums.specs.Sums.{sums_of, tail_p, tail_q, Tails, StoredAdded}
 
 -- a sum over the disks from k on, for any terms t j x
 module _ (t : ℕ → ℕ → ℕ) (n : ℕ) (f : ℕ → ℕ) where
@@ -116,10 +116,9 @@ module _ (n : ℕ) (f : ℕ → Column) where
   pub tails_all : {a : Sums} → Tails n 0 f a → (a.p ≡ each (λ j. parity_p n (f j))) × (a.q ≡ each (λ j. parity_q reed_solomon n (f j)))
   tails_all tails = (tails.first ∙ tabulate_same width (λ j l. tail_p_all n (f j)), tails.second ∙ tabulate_same width (λ j l. tail_q_all n (f j)))
 
-  pub tails_stored : {a : Sums} {d e p q : List ℕ} → Tails n 0 f a → d ≡ each (λ j. f j n) → e ≡ each (λ j. f j (n + 1)) → p ≡ plus a.p d → q ≡ plus a.q e
-      → two p q ≡ sums_of n f
-  tails_stored tails is_d is_e is_p is_q =
+  pub tails_stored : {a b : Sums} → Tails n 0 f a → StoredAdded n f a b → b ≡ sums_of n f
+  tails_stored tails stored =
       let sums = tails_all tails in
       ap₂ two
-      (is_p ∙ tabulate_same width (λ j l. ap₂ sum (at _ sums.0 j l) (at _ is_d j l) ∙ sum_comm (parity_p n (f j)) (f j n)))
-      (is_q ∙ tabulate_same width (λ j l. ap₂ sum (at _ sums.1 j l) (at _ is_e j l) ∙ sum_comm (parity_q reed_solomon n (f j)) (f j (n + 1))))
+      (stored.0 ∙ tabulate_same width (λ j l. ap₂ sum (at _ sums.0 j l) (each_at _ j l) ∙ sum_comm (parity_p n (f j)) (f j n)))
+      (stored.1 ∙ tabulate_same width (λ j l. ap₂ sum (at _ sums.1 j l) (each_at _ j l) ∙ sum_comm (parity_q reed_solomon n (f j)) (f j (n + 1))))

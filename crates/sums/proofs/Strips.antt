@@ -26,7 +26,7 @@ use Rattle.shape.proofs.Refused.{well_shaped}
 use Rattle.stretch.specs.Stretch.{Has, column_of}
 use Rattle.stretch.proofs.Laws.{column_of_lem}
 use Rattle.chunk.specs.declared.Sums.{Sums}
-use Rattle.sums.specs.Sums.{Tails}
+use Rattle.sums.specs.Sums.{Tails, StoredAdded}
 use Rattle.sums.specs.Strip.{strip, in_strips, has_strip, HasStrip, strip_column, over_strip, Stage}
 use Rattle.sums.proofs.Horner.{tail_none, tails_stored}
 
@@ -68,10 +68,9 @@ module _ (n : ℕ) (f : ℕ → Column) where
   pub stage_some : {k : ℕ} {a : Sums} → (k ≡ 0 → ⊥) → Tails n k f a → Stage width n k f a.p a.q
   stage_some {k} some tails = record { first = rw (ne_eqb k 0 some) tails.first; second = rw (ne_eqb k 0 some) tails.second }
 
-  pub stage_stored : {k : ℕ} {a : Sums} {d e p q : List ℕ} → k ≡ 0 → Tails n k f a → d ≡ each (λ j. f j n) → e ≡ each (λ j. f j (n + 1)) → p ≡ plus a.p d → q ≡ plus a.q e
-      → Stage width n k f p q
-  stage_stored last tails is_d is_e is_p is_q =
-      let sums = tails_stored n f (rw last at tails) is_d is_e is_p is_q in
+  pub stage_stored : {k : ℕ} {a b : Sums} → k ≡ 0 → Tails n k f a → StoredAdded n f a b → Stage width n k f b.p b.q
+  stage_stored last tails stored =
+      let sums = tails_stored n f (rw last at tails) stored in
       rw last record { first = ap (λ (r : Sums). r.p) sums; second = ap (λ (r : Sums). r.q) sums }
 
 -- ---- a chunk of a strip that is filled up to it, from the place c on

@@ -1,7 +1,7 @@
 -- The sums over the disks in a chunk of columns: what they are, and the steps of Horner's rule.
 use Rattle.std.specs.Prelude.{ℕ, ◌+◌, ◌-◌, ◌≤◌, ◌<◌, ◌≡◌, List}
 use Rattle.gf256.specs.Field.{product, power}
-use Rattle.chunk.specs.Chunk.{width, each}
+use Rattle.chunk.specs.Chunk.{width, each, plus}
 use Rattle.column.specs.Column.{Column, total, parity_p, parity_q, syndrome_p, syndrome_q, reed_solomon}
 use Rattle.shape.specs.declared.Geometry.{Geometry}
 use Rattle.shape.specs.Layout.{column}
@@ -27,6 +27,10 @@ tail_q n k f = total (n - k) (λ j. product (power 2 j) (f (k + j)))
 pub record Tails (n k : ℕ) (f : ℕ → Column) (a : Sums) : Type 0 where
   pub first : a.p ≡ each (λ j. tail_p n k (f j))
   pub second : a.q ≡ each (λ j. tail_q n k (f j))
+
+-- the bytes of f on P and Q are added to a, each to its sum, which becomes b
+abbrev pub StoredAdded : ℕ → (ℕ → Column) → Sums → Sums → Type 0
+StoredAdded n f a b = (b.p ≡ plus a.p (each (λ j. f j n))) × (b.q ≡ plus a.q (each (λ j. f j (n + 1))))
 
 -- the columns f are the stripe's on the disks from `from` to below `to`
 abbrev pub Agrees : Geometry → ℕ → ℕ → ℕ → List ℕ → (ℕ → Column) → Type 0

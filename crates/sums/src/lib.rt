@@ -9,11 +9,12 @@ ghost use Rattle.shape.specs.Refusals.{WellShaped};
 ghost use Rattle.shape.specs.Columns.{ColumnsMapped};
 ghost use Rattle.column.specs.Column.{put, encode_column, reed_solomon};
 ghost use Rattle.stretch.specs.Stretch.{Has, column_of, set_on};
-ghost use Rattle.sums.specs.Sums.{parities_of, sums_of, Tails, DisksAdded, AddedAbove};
+ghost use Rattle.sums.specs.Sums.{parities_of, sums_of, Tails, StoredAdded, DisksAdded, AddedAbove};
 ghost use Rattle.sums.specs.Strip.{strip, in_strips, has_strip, HasStrip, strip_column, StripSummed, Stage, outside, plain_group, GroupAdded, AddedWithin};
 ghost use Rattle.sums.specs.Passes.{page, in_passes, parities_set, Passed};
 
 use chunk::{Sums, WIDTH};
+use losses::Pair;
 use shape::Geometry;
 
 // The chunks of a strip, and its columns.
@@ -64,41 +65,35 @@ pub fn syndromes(g: Geometry, stripe: &[u8], i: usize) -> Sums
     sums
 }
 
-// P* and Q* of each column of a chunk without the roles x and y. A lost disk is no part of the loops:
+// P* and Q* of each column of a chunk without two roles. A lost disk is no part of the loops:
 // its step is a doubling.
-pub fn survivors(g: Geometry, stripe: &[u8], i: usize, x: usize, y: usize) -> Sums
-    ensures { result ≡ sums_of g.n (λ j. without x y (column_of g stripe.now i width j)) }
+pub fn survivors(g: Geometry, stripe: &[u8], i: usize, pair: Pair) -> Sums
+    ensures { result ≡ sums_of g.n (λ j. without pair.x pair.y (column_of g stripe.now i width j)) }
 {
     let mut sums = Sums::ZERO;
     if !stretch::has_columns(g, stripe.len(), i, WIDTH) {
         return sums;
     }
-    let k = add_above(g, stripe, i, x.max(y), g.n, &mut sums);
-    let k = add_above(g, stripe, i, x.min(y), k, &mut sums);
+    let k = add_above(g, stripe, i, pair.x.max(pair.y), g.n, &mut sums);
+    let k = add_above(g, stripe, i, pair.x.min(pair.y), k, &mut sums);
     add_disks(g, stripe, i, 0, k, &mut sums);
-    let d = load_but(g, stripe, g.n, i, WIDTH, x, y);
-    chunk::add(&mut sums.p, &d);
-    let d = load_but(g, stripe, g.n + 1, i, WIDTH, x, y);
-    chunk::add(&mut sums.q, &d);
+    add_stored(g, stripe, i, WIDTH, pair, &mut sums);
     sums
 }
 
 // The same of w columns. `survivors` is not this at a chunk's width: it tests no disk for being lost.
-pub fn part_survivors(g: Geometry, stripe: &[u8], i: usize, w: usize, x: usize, y: usize) -> Sums
-    ensures { result ≡ sums_of g.n (λ j. without x y (column_of g stripe.now i w j)) }
+pub fn part_survivors(g: Geometry, stripe: &[u8], i: usize, w: usize, pair: Pair) -> Sums
+    ensures { result ≡ sums_of g.n (λ j. without pair.x pair.y (column_of g stripe.now i w j)) }
 {
     let mut sums = Sums::ZERO;
     if !stretch::has_columns(g, stripe.len(), i, w) {
         return sums;
     }
     for k in (0..g.n).rev() {
-        let d = load_but(g, stripe, k, i, w, x, y);
+        let d = load_but(g, stripe, k, i, w, pair);
         sums.add_disk(&d);
     }
-    let d = load_but(g, stripe, g.n, i, w, x, y);
-    chunk::add(&mut sums.p, &d);
-    let d = load_but(g, stripe, g.n + 1, i, w, x, y);
-    chunk::add(&mut sums.q, &d);
+    add_stored(g, stripe, i, w, pair, &mut sums);
     sums
 }
 
@@ -109,12 +104,11 @@ pub fn strip_survivors(
     g: Geometry,
     stripe: &[u8],
     i: usize,
-    x: usize,
-    y: usize,
+    pair: Pair,
     p: &mut [u8; STRIP],
     q: &mut [u8; STRIP],
 )
-    ensures { StripSummed g i x y stripe.now p.old q.old p.new q.new }
+    ensures { StripSummed g i pair.x pair.y stripe.now p.old q.old p.new q.new }
 {
     if !has_strip(g, stripe.len(), i) {
         return;
@@ -124,7 +118,7 @@ pub fn strip_survivors(
     let mut to = g.n;
     while 0 < to {
         let from = to.saturating_sub(GROUP);
-        add_to_strip(g, stripe, i, x, y, from, to, p, q);
+        add_to_strip(g, stripe, i, pair, from, to, p, q);
         to = from;
     }
 }
@@ -247,15 +241,14 @@ fn add_to_strip(
     g: Geometry,
     stripe: &[u8],
     i: usize,
-    x: usize,
-    y: usize,
+    pair: Pair,
     from: usize,
     to: usize,
     p: &mut [u8],
     q: &mut [u8],
 )
-    requires { HasStrip g stripe.now i × (from < to) × (to ≤ g.n) × Stage strip g.n to (strip_column g stripe.now i x y) p.old q.old }
-    ensures { Stage strip g.n from (strip_column g stripe.now i x y) p.new q.new }
+    requires { HasStrip g stripe.now i × (from < to) × (to ≤ g.n) × Stage strip g.n to (strip_column g stripe.now i pair.x pair.y) p.old q.old }
+    ensures { Stage strip g.n from (strip_column g stripe.now i pair.x pair.y) p.new q.new }
 {
     for m in 0..CHUNKS {
         let c = WIDTH * m;
@@ -263,47 +256,43 @@ fn add_to_strip(
             p: chunk::load(&p[c..c + WIDTH]),
             q: chunk::load(&q[c..c + WIDTH]),
         };
-        add_group(g, stripe, i + c, x, y, from, to, &mut sums);
+        add_group(g, stripe, i + c, pair, from, to, &mut sums);
         chunk::store(&mut p[c..c + WIDTH], sums.p);
         chunk::store(&mut q[c..c + WIDTH], sums.q);
     }
 }
 
-// The disks below `to` down to `from` without x and y, and after the last disk the stored parities. Most groups have neither
+// The disks below `to` down to `from` without the lost ones, and after the last disk the stored parities. Most groups have neither
 // and are one run.
 fn add_group(
     g: Geometry,
     stripe: &[u8],
     i: usize,
-    x: usize,
-    y: usize,
+    pair: Pair,
     from: usize,
     to: usize,
     sums: &mut Sums,
 )
     requires { Has g stripe.now i width × (from ≤ to) × (to ≤ g.n) }
-    ensures { GroupAdded g i x y from to stripe.now sums.old sums.new }
+    ensures { GroupAdded g i pair.x pair.y from to stripe.now sums.old sums.new }
 {
-    if is_plain(x, y, from, to) {
+    if is_plain(pair, from, to) {
         add_disks(g, stripe, i, from, to, sums);
         return;
     }
-    let k = add_within(g, stripe, i, x.max(y), from, to, sums);
-    let k = add_within(g, stripe, i, x.min(y), from, k, sums);
+    let k = add_within(g, stripe, i, pair.x.max(pair.y), from, to, sums);
+    let k = add_within(g, stripe, i, pair.x.min(pair.y), from, k, sums);
     add_disks(g, stripe, i, from, k, sums);
     if from == 0 {
-        let d = load_but(g, stripe, g.n, i, WIDTH, x, y);
-        chunk::add(&mut sums.p, &d);
-        let d = load_but(g, stripe, g.n + 1, i, WIDTH, x, y);
-        chunk::add(&mut sums.q, &d);
+        add_stored(g, stripe, i, WIDTH, pair, sums);
     }
 }
 
-// Whether a group has neither x nor y and is not the last.
-fn is_plain(x: usize, y: usize, from: usize, to: usize) -> bool
-    ensures { result ≡ plain_group x y from to }
+// Whether a group has neither lost role and is not the last.
+fn is_plain(pair: Pair, from: usize, to: usize) -> bool
+    ensures { result ≡ plain_group pair.x pair.y from to }
 {
-    is_outside(x, from, to) && is_outside(y, from, to) && 0 < from
+    is_outside(pair.x, from, to) && is_outside(pair.y, from, to) && 0 < from
 }
 
 fn is_outside(role: usize, from: usize, to: usize) -> bool
@@ -331,19 +320,24 @@ fn add_within(
     add_above(g, stripe, i, lost, to, sums)
 }
 
-// 00 where the role is x or y.
-fn load_but(
-    g: Geometry,
-    stripe: &[u8],
-    role: usize,
-    i: usize,
-    w: usize,
-    x: usize,
-    y: usize,
-) -> [u8; WIDTH]
-    ensures { result ≡ each (λ j. without x y (column_of g stripe.now i w j) role) }
+// The stored parities of w columns but for a lost one, each added to its sum. It is written into its calls, so that the compiler
+// knows the width of a whole chunk.
+#[inline(always)]
+fn add_stored(g: Geometry, stripe: &[u8], i: usize, w: usize, pair: Pair, sums: &mut Sums)
+    requires { Has g stripe.now i w }
+    ensures { StoredAdded g.n (λ j. without pair.x pair.y (column_of g stripe.now i w j)) sums.old sums.new }
 {
-    if role == x || role == y {
+    let d = load_but(g, stripe, g.n, i, w, pair);
+    chunk::add(&mut sums.p, &d);
+    let d = load_but(g, stripe, g.n + 1, i, w, pair);
+    chunk::add(&mut sums.q, &d);
+}
+
+// 00 where the role is lost.
+fn load_but(g: Geometry, stripe: &[u8], role: usize, i: usize, w: usize, pair: Pair) -> [u8; WIDTH]
+    ensures { result ≡ each (λ j. without pair.x pair.y (column_of g stripe.now i w j) role) }
+{
+    if pair.has(role) {
         return [0u8; WIDTH];
     }
     stretch::load(g, stripe, role, i, w)

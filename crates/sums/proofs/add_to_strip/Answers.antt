@@ -30,8 +30,8 @@ loop-m-preserved c =
     let k = width * l.m in
     let fits : k + width ≤ strip = omega (arith, c.loop-m-test) in
     let next : k + width ≡ width * (l.m + 1) = omega arith in
-    let f : ℕ → Column = λ j. without a.x a.y (column_of a.g a.stripe.now (a.i + k) width j) in
-    let same : (j : ℕ) → j < width → f j ≡ strip_column a.g a.stripe.now a.i a.x a.y (k + j) = chunk_column c.requires.0 k fits a.x a.y in
+    let f : ℕ → Column = λ j. without a.pair.x a.pair.y (column_of a.g a.stripe.now (a.i + k) width j) in
+    let same : (j : ℕ) → j < width → f j ≡ strip_column a.g a.stripe.now a.i a.pair.x a.pair.y (k + j) = chunk_column c.requires.0 k fits a.pair.x a.pair.y in
     let some = ne_eqb a.to 0 (omega (arith, c.requires.1)) in
     let tails : Tails n a.to f (two c.load.result c.load-in-loop-m.result) =
     record {

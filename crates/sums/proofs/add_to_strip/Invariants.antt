@@ -6,5 +6,5 @@ use Rattle.sums.specs.Strip.{strip, strip_column, stage_p, stage_q}
 use Rattle.sums.proofs.add_to_strip.Given as goal
 
 abbrev pub invariant-loop-m : goal.invariant-loop-m
-invariant-loop-m l = Filled (λ j v. stage_p l.g.n l.from (strip_column l.g l.stripe l.i l.x l.y j)) strip l.initial.p l.p (width * l.m)
-    × Filled (λ j v. stage_q l.g.n l.from (strip_column l.g l.stripe l.i l.x l.y j)) strip l.initial.q l.q (width * l.m)
+invariant-loop-m l = Filled (λ j v. stage_p l.g.n l.from (strip_column l.g l.stripe l.i l.pair.x l.pair.y j)) strip l.initial.p l.p (width * l.m)
+    × Filled (λ j v. stage_q l.g.n l.from (strip_column l.g l.stripe l.i l.pair.x l.pair.y j)) strip l.initial.q l.q (width * l.m)

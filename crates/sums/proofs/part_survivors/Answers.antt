@@ -10,7 +10,7 @@ use Rattle.sums.proofs.Zeros.{no_sums}
 use Rattle.sums.proofs.part_survivors.Goals as goal
 
 pub returns-then-not-has_columns : goal.returns-then-not-has_columns
-returns-then-not-has_columns c = let a = c.args in no_sums a.g a.stripe.now a.i a.w (sym c.has_columns.ensures ∙ c.if-not-has_columns.true) a.g.n a.x a.y
+returns-then-not-has_columns c = let a = c.args in no_sums a.g a.stripe.now a.i a.w (sym c.has_columns.ensures ∙ c.if-not-has_columns.true) a.g.n a.pair.x a.pair.y
 
 pub loop-k-init : goal.loop-k-init
 loop-k-init c = tails_none _ _
@@ -20,11 +20,11 @@ loop-k-preserved c =
     let a = c.args in
     let l = c.loop-k in
     let d = c.load_but-d in
-    tails_more a.g.n (λ j. without a.x a.y (column_of a.g a.stripe.now a.i a.w j)) d.result (omega arith) (omega arith) l.invariant d.ensures (λ j. (elem_Fits w8 w8 d.result d.type_inv.0 j d.type_inv.1.1 tt).fits) c.add_disk.ensures.0 c.add_disk.ensures.1
+    tails_more a.g.n (λ j. without a.pair.x a.pair.y (column_of a.g a.stripe.now a.i a.w j)) d.result (omega arith) (omega arith) l.invariant d.ensures (λ j. (elem_Fits w8 w8 d.result d.type_inv.0 j d.type_inv.1.1 tt).fits) c.add_disk.ensures.0 c.add_disk.ensures.1
 
 pub returns : goal.returns
 returns c =
     let a = c.args in
     let l = c.loop-k in
     let none : l.k ≡ 0 = omega arith in
-    tails_stored a.g.n (λ j. without a.x a.y (column_of a.g a.stripe.now a.i a.w j)) (rw none at l.invariant) c.load_but-d-2.ensures c.load_but-d-3.ensures c.add.ensures c.add-2.ensures
+    tails_stored a.g.n (λ j. without a.pair.x a.pair.y (column_of a.g a.stripe.now a.i a.w j)) (rw none at l.invariant) c.add_stored.ensures

@@ -4,7 +4,7 @@ use Rattle.sums.specs.Strip.{strip, strip_column, Stage}
 use Rattle.sums.proofs.strip_survivors.Given as goal
 
 abbrev pub invariant-loop-to : goal.invariant-loop-to
-invariant-loop-to l = (l.to ≤ l.g.n) × Stage strip l.g.n l.to (strip_column l.g l.stripe l.i l.x l.y) l.p l.q
+invariant-loop-to l = (l.to ≤ l.g.n) × Stage strip l.g.n l.to (strip_column l.g l.stripe l.i l.pair.x l.pair.y) l.p l.q
 
 abbrev pub decreases-loop-to : goal.decreases-loop-to
 decreases-loop-to l = l.to

@@ -8,15 +8,12 @@ use Rattle.sums.proofs.Zeros.{no_sums}
 use Rattle.sums.proofs.survivors.Goals as goal
 
 pub returns-then-not-has_columns : goal.returns-then-not-has_columns
-returns-then-not-has_columns c = let a = c.args in no_sums a.g a.stripe.now a.i width (sym c.has_columns.ensures ∙ c.if-not-has_columns.true) a.g.n a.x a.y
+returns-then-not-has_columns c = let a = c.args in no_sums a.g a.stripe.now a.i width (sym c.has_columns.ensures ∙ c.if-not-has_columns.true) a.g.n a.pair.x a.pair.y
 
 pub returns : goal.returns
 returns c =
     let a = c.args in
     tails_stored a.g.n _
-    (runs_added a.x a.y (let a = c.args in has a.g a.stripe.now a.i width (sym c.has_columns.ensures ∙ c.if-not-has_columns.false)) (lower_min c.min.ensures) (higher_max c.max.ensures) (within_all c.add_above-k.ensures) (within_all c.add_above-k-2.ensures) c.add_disks.ensures
+    (runs_added a.pair.x a.pair.y (has a.g a.stripe.now a.i width (sym c.has_columns.ensures ∙ c.if-not-has_columns.false)) (lower_min c.min.ensures) (higher_max c.max.ensures) (within_all c.add_above-k.ensures) (within_all c.add_above-k-2.ensures) c.add_disks.ensures
     (tails_none a.g.n _))
-    c.load_but-d.ensures
-    c.load_but-d-2.ensures
-    c.add.ensures
-    c.add-2.ensures
+    c.add_stored.ensures

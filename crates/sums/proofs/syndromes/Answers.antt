@@ -1,6 +1,6 @@
 -- `sums::syndromes` meets its contract: all disks, and the stored parities.
-use mathlib.Core.Path.{sym, ◌∙◌}
-use Rattle.chunk.specs.Chunk.{width}
+use mathlib.Core.Path.{sym, ap, ◌∙◌}
+use Rattle.chunk.specs.Chunk.{width, plus}
 use Rattle.stretch.specs.Stretch.{column_of}
 use Rattle.stretch.proofs.Laws.{has}
 use Rattle.sums.proofs.Horner.{tails_stored}
@@ -16,4 +16,4 @@ returns-then-not-has_columns c = let a = c.args in no_syndromes a.g a.stripe.now
 pub returns : goal.returns
 returns c =
     let a = c.args in
-    tails_stored a.g.n (column_of a.g a.stripe.now a.i width) c.data_sums-sums.ensures c.load-d.ensures c.load-d-2.ensures c.add.ensures c.add-2.ensures
+    tails_stored a.g.n (column_of a.g a.stripe.now a.i width) c.data_sums-sums.ensures (c.add.ensures ∙ ap (plus _) c.load-d.ensures, c.add-2.ensures ∙ ap (plus _) c.load-d-2.ensures)
