@@ -47,7 +47,7 @@ pub fn parities(g: Geometry, stripe: &[u8], i: usize) -> Sums
     if !stretch::has_columns(g, stripe.len(), i, WIDTH) {
         return Sums::ZERO;
     }
-    data_sums(g, stripe, i)
+    Columns { g, stripe, i }.data_sums()
 }
 
 // P* and Q* of each column of a chunk: the parities that the data give, and the stored ones added.
@@ -57,7 +57,7 @@ pub fn syndromes(g: Geometry, stripe: &[u8], i: usize) -> Sums
     if !stretch::has_columns(g, stripe.len(), i, WIDTH) {
         return Sums::ZERO;
     }
-    let mut sums = data_sums(g, stripe, i);
+    let mut sums = Columns { g, stripe, i }.data_sums();
     let d = stretch::load(g, stripe, g.n, i, WIDTH);
     chunk::add(&mut sums.p, &d);
     let d = stretch::load(g, stripe, g.n + 1, i, WIDTH);
@@ -74,9 +74,10 @@ pub fn survivors(g: Geometry, stripe: &[u8], i: usize, pair: Pair) -> Sums
     if !stretch::has_columns(g, stripe.len(), i, WIDTH) {
         return sums;
     }
-    let k = add_above(g, stripe, i, pair.x.max(pair.y), g.n, &mut sums);
-    let k = add_above(g, stripe, i, pair.x.min(pair.y), k, &mut sums);
-    add_disks(g, stripe, i, 0, k, &mut sums);
+    let columns = Columns { g, stripe, i };
+    let k = columns.add_above(pair.x.max(pair.y), g.n, &mut sums);
+    let k = columns.add_above(pair.x.min(pair.y), k, &mut sums);
+    columns.add_disks(0, k, &mut sums);
     add_stored(g, stripe, i, WIDTH, pair, &mut sums);
     sums
 }
@@ -171,62 +172,110 @@ pub fn sum_without(g: Geometry, stripe: &[u8], i: usize, w: usize, x: usize) -> 
     p
 }
 
-// All disks of a chunk. The highest meets sums of 00, so that its step is a copy. It is compiled into each caller, as one that is
-// called for each chunk.
-#[inline(always)]
-fn data_sums(g: Geometry, stripe: &[u8], i: usize) -> Sums
-    requires { Has g stripe.now i width }
-    ensures { Tails g.n 0 (column_of g stripe.now i width) result }
-{
-    let mut sums = Sums::ZERO;
-    let k = g.n - 1;
-    let d = stretch::load(g, stripe, k, i, WIDTH);
-    sums.add_disk(&d);
-    add_pairs(g, stripe, i, k, &mut sums);
-    sums
+// A chunk's width of columns that a stripe has, to be read.
+#[derive(Clone, Copy)]
+struct Columns<'a> {
+    g: Geometry,
+    stripe: &'a [u8],
+    i: usize,
+    ghost has: { Has g stripe.now i width },
 }
 
-// The disks below `to` down to the lost one, which counts as 00. The first that is done.
-fn add_above(g: Geometry, stripe: &[u8], i: usize, lost: usize, to: usize, sums: &mut Sums) -> usize
-    requires { Has g stripe.now i width × (to ≤ g.n) }
-    ensures { AddedAbove g i lost to stripe.now sums.old result sums.new }
-{
-    if to <= lost {
-        return to;
+impl<'a> Columns<'a> {
+    // What `stretch` loads, without its tests: a pass would make them at each chunk, and took 2 to 4 % longer with them.
+    fn chunk(&self, role: usize) -> [u8; WIDTH]
+        requires { role < self.now.g.n + 2 }
+        ensures { result ≡ each (λ j. column_of self.now.g self.now.stripe.now self.now.i width j role) }
+    {
+        let at = self.g.start(role) + self.i;
+        chunk::load(&self.stripe[at..at + WIDTH])
     }
-    add_disks(g, stripe, i, lost + 1, to, sums);
-    products::double(&mut sums.q);
-    lost
-}
 
-// The disks below `to` down to `from`.
-fn add_disks(g: Geometry, stripe: &[u8], i: usize, from: usize, to: usize, sums: &mut Sums)
-    requires { Has g stripe.now i width × (from ≤ to) × (to ≤ g.n) }
-    ensures { DisksAdded g i from to stripe.now sums.old sums.new }
-{
-    let mut at = g.start(to) + i;
-    for k in (from..to).rev() {
-        at = g.role_before(at);
-        let d = chunk::load(&stripe[at..at + WIDTH]);
+    // All disks. The highest meets sums of 00, so that its step is a copy. It is compiled into each caller, as one that is called
+    // for each chunk.
+    #[inline(always)]
+    fn data_sums(&self) -> Sums
+        ensures { Tails self.now.g.n 0 (column_of self.now.g self.now.stripe.now self.now.i width) result }
+    {
+        let mut sums = Sums::ZERO;
+        let k = self.g.n - 1;
+        let d = self.chunk(k);
         sums.add_disk(&d);
+        self.add_pairs(k, &mut sums);
+        sums
     }
-}
 
-// All disks below `to`, two at a time, and the last alone where their number is odd. Where disks are lost there are up to three
-// runs of them, and the compiler leaves a step of two out of the loop over the chunks: those go one by one.
-fn add_pairs(g: Geometry, stripe: &[u8], i: usize, to: usize, sums: &mut Sums)
-    requires { Has g stripe.now i width × (to ≤ g.n) }
-    ensures { DisksAdded g i 0 to stripe.now sums.old sums.new }
-{
-    let mut at = g.start(to) + i;
-    for m in 0..to / 2 {
-        let above = g.role_before(at);
-        at = g.role_before(above);
-        let d = chunk::load(&stripe[above..above + WIDTH]);
-        let e = chunk::load(&stripe[at..at + WIDTH]);
-        sums.add_two_disks(&d, &e);
+    // The disks below `to` down to the lost one, which counts as 00. The first that is done.
+    fn add_above(&self, lost: usize, to: usize, sums: &mut Sums) -> usize
+        requires { to ≤ self.now.g.n }
+        ensures { AddedAbove self.now.g self.now.i lost to self.now.stripe.now sums.old result sums.new }
+    {
+        if to <= lost {
+            return to;
+        }
+        self.add_disks(lost + 1, to, sums);
+        products::double(&mut sums.q);
+        lost
     }
-    add_disks(g, stripe, i, 0, to % 2, sums);
+
+    // The disks below `to` down to `from`.
+    fn add_disks(&self, from: usize, to: usize, sums: &mut Sums)
+        requires { (from ≤ to) × (to ≤ self.now.g.n) }
+        ensures { DisksAdded self.now.g self.now.i from to self.now.stripe.now sums.old sums.new }
+    {
+        let mut at = self.g.start(to) + self.i;
+        for k in (from..to).rev() {
+            at = self.g.role_before(at);
+            let d = chunk::load(&self.stripe[at..at + WIDTH]);
+            sums.add_disk(&d);
+        }
+    }
+
+    // All disks below `to`, two at a time, and the last alone where their number is odd. Where disks are lost there are up to
+    // three runs of them, and the compiler leaves a step of two out of the loop over the chunks: those go one by one.
+    fn add_pairs(&self, to: usize, sums: &mut Sums)
+        requires { to ≤ self.now.g.n }
+        ensures { DisksAdded self.now.g self.now.i 0 to self.now.stripe.now sums.old sums.new }
+    {
+        let mut at = self.g.start(to) + self.i;
+        for m in 0..to / 2 {
+            let above = self.g.role_before(at);
+            at = self.g.role_before(above);
+            let d = chunk::load(&self.stripe[above..above + WIDTH]);
+            let e = chunk::load(&self.stripe[at..at + WIDTH]);
+            sums.add_two_disks(&d, &e);
+        }
+        self.add_disks(0, to % 2, sums);
+    }
+
+    // The disks below `to` down to `from` without the lost ones, and after the last disk the stored parities. Most groups have
+    // neither and are one run.
+    fn add_group(&self, pair: Pair, from: usize, to: usize, sums: &mut Sums)
+        requires { (from ≤ to) × (to ≤ self.now.g.n) }
+        ensures { GroupAdded self.now.g self.now.i pair.x pair.y from to self.now.stripe.now sums.old sums.new }
+    {
+        if is_plain(pair, from, to) {
+            self.add_disks(from, to, sums);
+            return;
+        }
+        let k = self.add_within(pair.x.max(pair.y), from, to, sums);
+        let k = self.add_within(pair.x.min(pair.y), from, k, sums);
+        self.add_disks(from, k, sums);
+        if from == 0 {
+            add_stored(self.g, self.stripe, self.i, WIDTH, pair, sums);
+        }
+    }
+
+    // Those above a lost disk and the lost one as 00, if it is one of them. The first that is done.
+    fn add_within(&self, lost: usize, from: usize, to: usize, sums: &mut Sums) -> usize
+        requires { (from ≤ to) × (to ≤ self.now.g.n) }
+        ensures { AddedWithin self.now.g self.now.i lost from to self.now.stripe.now sums.old result sums.new }
+    {
+        if lost < from {
+            return to;
+        }
+        self.add_above(lost, to, sums)
+    }
 }
 
 // Whether a buffer of this length is a stripe with a strip of columns from i on.
@@ -256,35 +305,14 @@ fn add_to_strip(
             p: chunk::load(&p[c..c + WIDTH]),
             q: chunk::load(&q[c..c + WIDTH]),
         };
-        add_group(g, stripe, i + c, pair, from, to, &mut sums);
+        let columns = Columns {
+            g,
+            stripe,
+            i: i + c,
+        };
+        columns.add_group(pair, from, to, &mut sums);
         chunk::store(&mut p[c..c + WIDTH], sums.p);
         chunk::store(&mut q[c..c + WIDTH], sums.q);
-    }
-}
-
-// The disks below `to` down to `from` without the lost ones, and after the last disk the stored parities. Most groups have neither
-// and are one run.
-fn add_group(
-    g: Geometry,
-    stripe: &[u8],
-    i: usize,
-    pair: Pair,
-    from: usize,
-    to: usize,
-    sums: &mut Sums,
-)
-    requires { Has g stripe.now i width × (from ≤ to) × (to ≤ g.n) }
-    ensures { GroupAdded g i pair.x pair.y from to stripe.now sums.old sums.new }
-{
-    if is_plain(pair, from, to) {
-        add_disks(g, stripe, i, from, to, sums);
-        return;
-    }
-    let k = add_within(g, stripe, i, pair.x.max(pair.y), from, to, sums);
-    let k = add_within(g, stripe, i, pair.x.min(pair.y), from, k, sums);
-    add_disks(g, stripe, i, from, k, sums);
-    if from == 0 {
-        add_stored(g, stripe, i, WIDTH, pair, sums);
     }
 }
 
@@ -299,25 +327,6 @@ fn is_outside(role: usize, from: usize, to: usize) -> bool
     ensures { result ≡ outside role from to }
 {
     role < from || to <= role
-}
-
-// Those above a lost disk and the lost one as 00, if it is one of them. The first that is done.
-fn add_within(
-    g: Geometry,
-    stripe: &[u8],
-    i: usize,
-    lost: usize,
-    from: usize,
-    to: usize,
-    sums: &mut Sums,
-) -> usize
-    requires { Has g stripe.now i width × (from ≤ to) × (to ≤ g.n) }
-    ensures { AddedWithin g i lost from to stripe.now sums.old result sums.new }
-{
-    if lost < from {
-        return to;
-    }
-    add_above(g, stripe, i, lost, to, sums)
 }
 
 // The stored parities of w columns but for a lost one, each added to its sum. It is written into its calls, so that the compiler
@@ -395,11 +404,12 @@ impl Pass for Begin {
     ghost Known = { λ it n. ⊤ };
 
     fn chunk(self, g: Geometry, stripe: &mut [u8], i: usize) {
+        let columns = Columns { g, stripe, i };
         let mut sums = Sums::ZERO;
         let k = g.n - 1;
-        let d = chunk_at(g, stripe, k, i);
+        let d = columns.chunk(k);
         sums.add_disk(&d);
-        add_disks(g, stripe, i, self.from, k, &mut sums);
+        columns.add_disks(self.from, k, &mut sums);
         set_sums(g, stripe, i, sums);
     }
 }
@@ -419,11 +429,12 @@ impl Pass for Carry {
     ghost Known = { λ it n. it.to < n };
 
     fn chunk(self, g: Geometry, stripe: &mut [u8], i: usize) {
+        let columns = Columns { g, stripe, i };
         let mut sums = Sums {
-            p: chunk_at(g, stripe, g.n, i),
-            q: chunk_at(g, stripe, g.n + 1, i),
+            p: columns.chunk(g.n),
+            q: columns.chunk(g.n + 1),
         };
-        add_disks(g, stripe, i, self.from, self.to, &mut sums);
+        columns.add_disks(self.from, self.to, &mut sums);
         set_sums(g, stripe, i, sums);
     }
 }
@@ -437,15 +448,7 @@ fn set_sums(g: Geometry, stripe: &mut [u8], i: usize, sums: Sums)
     set_chunk(g, stripe, g.n, i, sums.p);
 }
 
-// What `stretch` loads and sets, without its tests: a pass would make them at each chunk, and took 2 to 4 % longer with them.
-fn chunk_at(g: Geometry, stripe: &[u8], role: usize, i: usize) -> [u8; WIDTH]
-    requires { Has g stripe.now i width × (role < g.n + 2) }
-    ensures { result ≡ each (λ j. column_of g stripe.now i width j role) }
-{
-    let at = g.start(role) + i;
-    chunk::load(&stripe[at..at + WIDTH])
-}
-
+// What `stretch` sets, without its tests, as `Columns::chunk` loads.
 fn set_chunk(g: Geometry, stripe: &mut [u8], role: usize, i: usize, new: [u8; WIDTH])
     requires { Has g stripe.old i width × (role < g.n + 2) }
     ensures { stripe.new ≡ set_on g role i width new stripe.old }

@@ -7,9 +7,6 @@ use Rattle.sums.proofs.Horner.{two, tails_all}
 use Rattle.sums.proofs.Zeros.{no_parities}
 use Rattle.sums.proofs.parities.Goals as goal
 
-pub data_sums-requires : goal.data_sums-requires
-data_sums-requires c = let a = c.args in has a.g a.stripe.now a.i width (sym c.has_columns.ensures ∙ c.if-not-has_columns.false)
-
 pub returns-then-not-has_columns : goal.returns-then-not-has_columns
 returns-then-not-has_columns c = let a = c.args in no_parities a.g a.stripe.now a.i width (sym c.has_columns.ensures ∙ c.if-not-has_columns.true) a.g.n
 

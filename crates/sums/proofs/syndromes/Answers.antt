@@ -7,9 +7,6 @@ use Rattle.sums.proofs.Horner.{tails_stored}
 use Rattle.sums.proofs.Zeros.{no_syndromes}
 use Rattle.sums.proofs.syndromes.Goals as goal
 
-pub data_sums-sums-requires : goal.data_sums-sums-requires
-data_sums-sums-requires c = let a = c.args in has a.g a.stripe.now a.i width (sym c.has_columns.ensures ∙ c.if-not-has_columns.false)
-
 pub returns-then-not-has_columns : goal.returns-then-not-has_columns
 returns-then-not-has_columns c = let a = c.args in no_syndromes a.g a.stripe.now a.i width (sym c.has_columns.ensures ∙ c.if-not-has_columns.true) a.g.n
 

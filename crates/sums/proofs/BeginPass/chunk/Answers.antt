@@ -6,7 +6,7 @@ use Rattle.sums.proofs.BeginPass.chunk.Goals as goal
 
 pub returns : goal.returns
 returns c =
-    let d = c.chunk_at-d in
+    let d = c.chunk-d in
     let first = c.add_disk.ensures in
     let sums = c.add_disks in
     let some = c.requires.2 in

@@ -6,5 +6,5 @@ pub returns : goal.returns
 returns c =
     let sums = c.add_disks in
     chunk_passed sums.new.sums c.requires.2
-    (chunk_carried c.requires.0 c.requires.3 c.chunk_at.ensures c.chunk_at-2.ensures sums.ensures)
+    (chunk_carried c.requires.0 c.requires.3 c.chunk.ensures c.chunk-2.ensures sums.ensures)
     c.set_sums.ensures

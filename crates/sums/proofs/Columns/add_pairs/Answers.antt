@@ -1,4 +1,4 @@
--- `sums::add_pairs` meets its contract.
+-- `sums::Columns::add_pairs` meets its contract.
 use borrow.Author.Rules.{elem_Fits}
 use mathlib.Core.Path.{◌≡◌, refl, ap, subst, ◌∙◌}
 use Prim.Native.Nat.{ℕ, ◌+◌, ◌*◌, ◌-◌, ◌≤◌, ◌%◌}
@@ -13,7 +13,7 @@ use Rattle.std.proofs.Common.{◌≡◌, ℕ, ◌+◌, ◌-◌, ◌<◌, ◌≤�
 use Rattle.chunk.specs.Chunk.{width}
 use Rattle.sums.specs.Sums.{Tails}
 use Rattle.sums.proofs.Runs.{placed, inside, below, disk_added}
-use Rattle.sums.proofs.add_pairs.Goals as goal
+use Rattle.sums.proofs.Columns.add_pairs.Goals as goal
 
 -- where the next two disks below disk k have the columns, and that they lie within the stripe
 places : {g : Geometry} {s : List ℕ} {i at above next : ℕ} → Has g s i width → (k : ℕ) → length s < 18446744073709551616 → 1 < k → k ≤ g.n → at ≡ start g k + i
@@ -33,19 +33,19 @@ ends has k small two h is one other =
     (inside has (k - 1) (omega arith) at.0, inside has (k - 2) (omega arith) at.1)
 
 pub overflow_add-at : goal.overflow_add-at
-overflow_add-at c = omega (arith, inside c.requires.0 c.args.to (omega arith) (placed c.requires.0 c.args.to (omega arith) c.start.ensures))
+overflow_add-at c = omega (arith, inside c.args.self.now.has c.args.to (omega arith) (placed c.args.self.now.has c.args.to (omega arith) c.start.ensures))
 
 pub overflow_add-above : goal.overflow_add-above
-overflow_add-above c = omega (arith, (ends c.requires.0 (c.args.to - 2 * c.loop-m.m) (omega arith) (omega arith) (omega arith) c.loop-m.invariant.0 c.role_before-above.ensures c.role_before-at.ensures).0)
+overflow_add-above c = omega (arith, (ends c.args.self.now.has (c.args.to - 2 * c.loop-m.m) (omega arith) (omega arith) (omega arith) c.loop-m.invariant.0 c.role_before-above.ensures c.role_before-at.ensures).0)
 
 pub slice_bounds-load-end : goal.slice_bounds-load-end
-slice_bounds-load-end c = omega (arith, (ends c.requires.0 (c.args.to - 2 * c.loop-m.m) (omega arith) (omega arith) (omega arith) c.loop-m.invariant.0 c.role_before-above.ensures c.role_before-at.ensures).0)
+slice_bounds-load-end c = omega (arith, (ends c.args.self.now.has (c.args.to - 2 * c.loop-m.m) (omega arith) (omega arith) (omega arith) c.loop-m.invariant.0 c.role_before-above.ensures c.role_before-at.ensures).0)
 
 pub overflow_add-at-in-loop-m : goal.overflow_add-at-in-loop-m
-overflow_add-at-in-loop-m c = omega (arith, (ends c.requires.0 (c.args.to - 2 * c.loop-m.m) (omega arith) (omega arith) (omega arith) c.loop-m.invariant.0 c.role_before-above.ensures c.role_before-at.ensures).1)
+overflow_add-at-in-loop-m c = omega (arith, (ends c.args.self.now.has (c.args.to - 2 * c.loop-m.m) (omega arith) (omega arith) (omega arith) c.loop-m.invariant.0 c.role_before-above.ensures c.role_before-at.ensures).1)
 
 pub slice_bounds-load-end-in-loop-m : goal.slice_bounds-load-end-in-loop-m
-slice_bounds-load-end-in-loop-m c = omega (arith, (ends c.requires.0 (c.args.to - 2 * c.loop-m.m) (omega arith) (omega arith) (omega arith) c.loop-m.invariant.0 c.role_before-above.ensures c.role_before-at.ensures).1)
+slice_bounds-load-end-in-loop-m c = omega (arith, (ends c.args.self.now.has (c.args.to - 2 * c.loop-m.m) (omega arith) (omega arith) (omega arith) c.loop-m.invariant.0 c.role_before-above.ensures c.role_before-at.ensures).1)
 
 pub loop-m-preserved : goal.loop-m-preserved
 loop-m-preserved c =
@@ -53,11 +53,11 @@ loop-m-preserved c =
     let l = c.loop-m in
     let d = c.load-d in
     let e = c.load-e in
-    let at = places c.requires.0 (c.args.to - 2 * c.loop-m.m) (omega arith) (omega arith) (omega arith) c.loop-m.invariant.0 c.role_before-above.ensures c.role_before-at.ensures in
-    let lower : c.role_before-at.result ≡ start a.g (a.to - 2 * (l.m + 1)) + a.i = at.1 ∙ ap (λ (k : ℕ). start a.g k + a.i) (omega arith) in
-    let first = disk_added a.g a.stripe.now a.i d.result (omega arith) (omega arith) (omega arith) l.invariant.1 at.0 d.ensures (λ j. (elem_Fits w8 w8 d.result d.type_inv.0 j d.type_inv.1.1 tt).fits) refl refl in (
+    let at = places c.args.self.now.has (c.args.to - 2 * c.loop-m.m) (omega arith) (omega arith) (omega arith) c.loop-m.invariant.0 c.role_before-above.ensures c.role_before-at.ensures in
+    let lower : c.role_before-at.result ≡ start a.self.now.g (a.to - 2 * (l.m + 1)) + a.self.now.i = at.1 ∙ ap (λ (k : ℕ). start a.self.now.g k + a.self.now.i) (omega arith) in
+    let first = disk_added a.self.now.g a.self.now.stripe.now a.self.now.i d.result (omega arith) (omega arith) (omega arith) l.invariant.1 at.0 d.ensures (λ j. (elem_Fits w8 w8 d.result d.type_inv.0 j d.type_inv.1.1 tt).fits) refl refl in (
       lower,
-      disk_added a.g a.stripe.now a.i e.result (omega arith) (omega arith) (omega arith) first lower e.ensures
+      disk_added a.self.now.g a.self.now.stripe.now a.self.now.i e.result (omega arith) (omega arith) (omega arith) first lower e.ensures
           (λ j. (elem_Fits w8 w8 e.result e.type_inv.0 j e.type_inv.1.1 tt).fits)
           c.add_two_disks.ensures.0
           c.add_two_disks.ensures.1,
@@ -67,4 +67,4 @@ pub returns : goal.returns
 returns c =
     let l = c.loop-m in
     let same : c.args.to - 2 * l.m ≡ c.args.to % 2 = omega arith in
-    λ f agrees tails. c.add_disks.ensures f (λ j k p low high. agrees j k p low (omega arith)) (subst (λ (k : ℕ). Tails c.args.g.n k f l.sums) same (l.invariant.1 f (λ j k p low high. agrees j k p (omega arith) high) tails))
+    λ f agrees tails. c.add_disks.ensures f (λ j k p low high. agrees j k p low (omega arith)) (subst (λ (k : ℕ). Tails c.args.self.now.g.n k f l.sums) same (l.invariant.1 f (λ j k p low high. agrees j k p (omega arith) high) tails))
