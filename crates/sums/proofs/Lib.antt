@@ -1,3 +1,4 @@
+mod Bytes
 mod Horner
 mod Zeros
 mod Runs

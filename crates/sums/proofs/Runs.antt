@@ -1,14 +1,14 @@
 -- Where the columns of a disk stand, and one disk more. All disks: the highest, and those below it. The disks of a group in one run, or in three:
 -- above the higher of two lost ones, between both and below, each lost one as 00.
 -- Assumes nothing.
-use mathlib.Core.Path.{◌≡◌, refl, sym, ap, ◌∙◌}
+use mathlib.Core.Path.{◌≡◌, sym, ap, ◌∙◌}
 use mathlib.Core.Logic.{◌⊎◌, inl, inr, ⊎_elim}
 use mathlib.Core.Bool.{true, true≢false}
 use mathlib.Core.List.{List}
 use Prim.Native.Nat.{ℕ, suc, ◌+◌, ◌-◌, ◌≤◌, ◌<◌, min, max}
 use native.Mathlib.Omega.{arith}
 use borrow.Author.Tests.{le-ltb, lt-leb}
-use lib.ListN.{length, get_or, take, drop, replicate}
+use lib.ListN.{length, get_or, replicate}
 use Rattle.base.proofs.Choice.{below_or_not}
 use Rattle.base.proofs.Table.{tabulate_same}
 use Rattle.chunk.specs.Chunk.{width, each, plus, double_plus}
@@ -18,7 +18,7 @@ use Rattle.losses.specs.Losses.{without}
 use Rattle.losses.proofs.Without.{without_other, without_lost}
 use Rattle.shape.specs.declared.Geometry.{Geometry}
 use Rattle.shape.specs.Layout.{start, low_start, place_before, column}
-use Rattle.shape.proofs.Stretch.{block_start, before_start, stretch_inside, part_at}
+use Rattle.shape.proofs.Stretch.{block_start, before_start, stretch_inside}
 use Rattle.stretch.specs.Stretch.{Has, column_of}
 use Rattle.stretch.proofs.Laws.{column_of_lem}
 use Rattle.sums.specs.Sums.{Tails, Agrees, DisksAdded, AddedAbove}
@@ -48,7 +48,7 @@ below {g} {s} {i} has small k {m} next h is moved =
 pub disk_added : (g : Geometry) (s : List ℕ) (i : ℕ) {to k m at : ℕ} {a b c : Sums} (d : List ℕ) → m ≡ suc k → m ≤ to → to ≤ g.n
     → DisksAdded g i m to s a b
     → at ≡ start g k + i
-    → d ≡ each (λ j. get_or (take (at + width - at) (drop at s)) j 0)
+    → d ≡ each (λ j. get_or s (at + j) 0)
     → ((j : ℕ) → get_or d j 0 < 256)
     → c.p ≡ plus b.p d
     → c.q ≡ double_plus b.q d
@@ -57,10 +57,7 @@ disk_added g s i {k = k} d next h most added place is bytes is_p is_q f agrees t
     tails_more g.n f d next (omega arith) (added f (λ j m l low high. agrees j m l (omega arith) high) tails)
     (is
     ∙ tabulate_same width
-    (λ j l.
-    ap (λ (p : ℕ). get_or (take (p + width - p) (drop p s)) j 0) place
-    ∙ part_at g s k i width refl j l
-    ∙ sym (agrees j k l (omega arith) (omega arith))))
+    (λ j l. ap (λ (p : ℕ). get_or s p 0) (omega (arith, place)) ∙ sym (agrees j k l (omega arith) (omega arith))))
     bytes
     is_p
     is_q

@@ -14,7 +14,7 @@ use Rattle.base.proofs.Fill.{Filled, fill_part}
 use Rattle.base.proofs.Tails.{part_length, part_place}
 use Rattle.base.proofs.Table.{length_tabulate, get_d_tabulate, tabulate_same}
 use Rattle.gf256.specs.Field.{product, power}
-use Rattle.chunk.specs.Chunk.{width, each, stored, plus, Holds}
+use Rattle.chunk.specs.Chunk.{width, each, stored, Holds}
 use Rattle.chunk.proofs.Laws.{stored_short, each_at}
 use Rattle.column.specs.Column.{Column}
 use Rattle.losses.specs.Losses.{without}

@@ -2,7 +2,7 @@
 // disk down. A stripe that has not these columns is taken as 00.
 #![tactic(auto)]
 
-ghost use Rattle.std.specs.Prelude.{◌≡◌, ℕ, ⊤, ◌+◌, ◌≤◌, ◌<◌, get_or};
+ghost use Rattle.std.specs.Prelude.{◌≡◌, ℕ, ⊤, ◌+◌, ◌≤◌, ◌<◌, length, get_or};
 ghost use Rattle.chunk.specs.Chunk.{width, each};
 ghost use Rattle.losses.specs.Losses.{without, by_p};
 ghost use Rattle.shape.specs.Refusals.{WellShaped};
@@ -182,13 +182,20 @@ struct Columns<'a> {
 }
 
 impl<'a> Columns<'a> {
+    // The bytes from a place of the buffer on.
+    fn load(&self, at: usize) -> [u8; WIDTH]
+        requires { at + width ≤ length self.now.stripe.now }
+        ensures { result ≡ each (λ j. get_or self.now.stripe.now (at + j) 0) }
+    {
+        chunk::load(&self.stripe[at..at + WIDTH])
+    }
+
     // What `stretch` loads, without its tests: a pass would make them at each chunk, and took 2 to 4 % longer with them.
     fn chunk(&self, role: usize) -> [u8; WIDTH]
         requires { role < self.now.g.n + 2 }
         ensures { result ≡ each (λ j. column_of self.now.g self.now.stripe.now self.now.i width j role) }
     {
-        let at = self.g.start(role) + self.i;
-        chunk::load(&self.stripe[at..at + WIDTH])
+        self.load(self.g.start(role) + self.i)
     }
 
     // All disks. The highest meets sums of 00, so that its step is a copy. It is compiled into each caller, as one that is called
@@ -226,7 +233,7 @@ impl<'a> Columns<'a> {
         let mut at = self.g.start(to) + self.i;
         for k in (from..to).rev() {
             at = self.g.role_before(at);
-            let d = chunk::load(&self.stripe[at..at + WIDTH]);
+            let d = self.load(at);
             sums.add_disk(&d);
         }
     }
@@ -241,8 +248,8 @@ impl<'a> Columns<'a> {
         for m in 0..to / 2 {
             let above = self.g.role_before(at);
             at = self.g.role_before(above);
-            let d = chunk::load(&self.stripe[above..above + WIDTH]);
-            let e = chunk::load(&self.stripe[at..at + WIDTH]);
+            let d = self.load(above);
+            let e = self.load(at);
             sums.add_two_disks(&d, &e);
         }
         self.add_disks(0, to % 2, sums);

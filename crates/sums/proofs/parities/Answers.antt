@@ -2,7 +2,6 @@
 use mathlib.Core.Path.{sym, ap₂, ◌∙◌}
 use Rattle.chunk.specs.Chunk.{width}
 use Rattle.stretch.specs.Stretch.{column_of}
-use Rattle.stretch.proofs.Laws.{has}
 use Rattle.sums.proofs.Horner.{two, tails_all}
 use Rattle.sums.proofs.Zeros.{no_parities}
 use Rattle.sums.proofs.parities.Goals as goal

@@ -1,12 +1,11 @@
 -- `sums::part_survivors` meets its contract.
-use borrow.Author.Rules.{elem_Fits}
 use mathlib.Core.Path.{◌≡◌, sym, ◌∙◌}
 use native.Mathlib.Omega.{arith}
-use mir.Syntax.{w8}
 use Rattle.losses.specs.Losses.{without}
 use Rattle.stretch.specs.Stretch.{column_of}
 use Rattle.sums.proofs.Horner.{tails_none, tails_more, tails_stored}
 use Rattle.sums.proofs.Zeros.{no_sums}
+use Rattle.sums.proofs.Bytes.{bytes}
 use Rattle.sums.proofs.part_survivors.Goals as goal
 
 pub returns-then-not-has_columns : goal.returns-then-not-has_columns
@@ -20,7 +19,7 @@ loop-k-preserved c =
     let a = c.args in
     let l = c.loop-k in
     let d = c.load_but-d in
-    tails_more a.g.n (λ j. without a.pair.x a.pair.y (column_of a.g a.stripe.now a.i a.w j)) d.result (omega arith) (omega arith) l.invariant d.ensures (λ j. (elem_Fits w8 w8 d.result d.type_inv.0 j d.type_inv.1.1 tt).fits) c.add_disk.ensures.0 c.add_disk.ensures.1
+    tails_more a.g.n (λ j. without a.pair.x a.pair.y (column_of a.g a.stripe.now a.i a.w j)) d.result (omega arith) (omega arith) l.invariant d.ensures (bytes d.result d.type_inv.0 d.type_inv.1.1) c.add_disk.ensures.0 c.add_disk.ensures.1
 
 pub returns : goal.returns
 returns c =

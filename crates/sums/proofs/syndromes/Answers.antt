@@ -2,7 +2,6 @@
 use mathlib.Core.Path.{sym, ap, ◌∙◌}
 use Rattle.chunk.specs.Chunk.{width, plus}
 use Rattle.stretch.specs.Stretch.{column_of}
-use Rattle.stretch.proofs.Laws.{has}
 use Rattle.sums.proofs.Horner.{tails_stored}
 use Rattle.sums.proofs.Zeros.{no_syndromes}
 use Rattle.sums.proofs.syndromes.Goals as goal

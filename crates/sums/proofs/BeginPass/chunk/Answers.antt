@@ -1,7 +1,6 @@
 -- `Begin` meets its contract: the highest disk, those below it, and both sums put in their places.
-use borrow.Author.Rules.{elem_Fits}
-use mir.Syntax.{w8}
 use Rattle.sums.proofs.Passes.{chunk_begun, chunk_passed}
+use Rattle.sums.proofs.Bytes.{bytes}
 use Rattle.sums.proofs.BeginPass.chunk.Goals as goal
 
 pub returns : goal.returns
@@ -11,5 +10,5 @@ returns c =
     let sums = c.add_disks in
     let some = c.requires.2 in
     chunk_passed sums.new.sums some
-    (chunk_begun d.result c.requires.0 some d.ensures (λ j. (elem_Fits w8 w8 d.result d.type_inv.0 j d.type_inv.1.1 tt).fits) first.0 first.1 sums.ensures)
+    (chunk_begun d.result c.requires.0 some d.ensures (bytes d.result d.type_inv.0 d.type_inv.1.1) first.0 first.1 sums.ensures)
     c.set_sums.ensures

@@ -1,9 +1,7 @@
 -- `sums::Columns::add_pairs` meets its contract.
-use borrow.Author.Rules.{elem_Fits}
 use mathlib.Core.Path.{◌≡◌, refl, ap, subst, ◌∙◌}
 use Prim.Native.Nat.{ℕ, ◌+◌, ◌*◌, ◌-◌, ◌≤◌, ◌%◌}
 use native.Mathlib.Omega.{arith}
-use mir.Syntax.{w8}
 use lib.ListN.{length}
 use Rattle.chunk.specs.Chunk.{width}
 use Rattle.shape.specs.declared.Geometry.{Geometry}
@@ -13,6 +11,7 @@ use Rattle.std.proofs.Common.{◌≡◌, ℕ, ◌+◌, ◌-◌, ◌<◌, ◌≤�
 use Rattle.chunk.specs.Chunk.{width}
 use Rattle.sums.specs.Sums.{Tails}
 use Rattle.sums.proofs.Runs.{placed, inside, below, disk_added}
+use Rattle.sums.proofs.Bytes.{bytes}
 use Rattle.sums.proofs.Columns.add_pairs.Goals as goal
 
 -- where the next two disks below disk k have the columns, and that they lie within the stripe
@@ -35,17 +34,11 @@ ends has k small two h is one other =
 pub overflow_add-at : goal.overflow_add-at
 overflow_add-at c = omega (arith, inside c.args.self.now.has c.args.to (omega arith) (placed c.args.self.now.has c.args.to (omega arith) c.start.ensures))
 
-pub overflow_add-above : goal.overflow_add-above
-overflow_add-above c = omega (arith, (ends c.args.self.now.has (c.args.to - 2 * c.loop-m.m) (omega arith) (omega arith) (omega arith) c.loop-m.invariant.0 c.role_before-above.ensures c.role_before-at.ensures).0)
+pub load-d-requires : goal.load-d-requires
+load-d-requires c = (ends c.args.self.now.has (c.args.to - 2 * c.loop-m.m) (omega arith) (omega arith) (omega arith) c.loop-m.invariant.0 c.role_before-above.ensures c.role_before-at.ensures).0
 
-pub slice_bounds-load-end : goal.slice_bounds-load-end
-slice_bounds-load-end c = omega (arith, (ends c.args.self.now.has (c.args.to - 2 * c.loop-m.m) (omega arith) (omega arith) (omega arith) c.loop-m.invariant.0 c.role_before-above.ensures c.role_before-at.ensures).0)
-
-pub overflow_add-at-in-loop-m : goal.overflow_add-at-in-loop-m
-overflow_add-at-in-loop-m c = omega (arith, (ends c.args.self.now.has (c.args.to - 2 * c.loop-m.m) (omega arith) (omega arith) (omega arith) c.loop-m.invariant.0 c.role_before-above.ensures c.role_before-at.ensures).1)
-
-pub slice_bounds-load-end-in-loop-m : goal.slice_bounds-load-end-in-loop-m
-slice_bounds-load-end-in-loop-m c = omega (arith, (ends c.args.self.now.has (c.args.to - 2 * c.loop-m.m) (omega arith) (omega arith) (omega arith) c.loop-m.invariant.0 c.role_before-above.ensures c.role_before-at.ensures).1)
+pub load-e-requires : goal.load-e-requires
+load-e-requires c = (ends c.args.self.now.has (c.args.to - 2 * c.loop-m.m) (omega arith) (omega arith) (omega arith) c.loop-m.invariant.0 c.role_before-above.ensures c.role_before-at.ensures).1
 
 pub loop-m-preserved : goal.loop-m-preserved
 loop-m-preserved c =
@@ -55,10 +48,10 @@ loop-m-preserved c =
     let e = c.load-e in
     let at = places c.args.self.now.has (c.args.to - 2 * c.loop-m.m) (omega arith) (omega arith) (omega arith) c.loop-m.invariant.0 c.role_before-above.ensures c.role_before-at.ensures in
     let lower : c.role_before-at.result ≡ start a.self.now.g (a.to - 2 * (l.m + 1)) + a.self.now.i = at.1 ∙ ap (λ (k : ℕ). start a.self.now.g k + a.self.now.i) (omega arith) in
-    let first = disk_added a.self.now.g a.self.now.stripe.now a.self.now.i d.result (omega arith) (omega arith) (omega arith) l.invariant.1 at.0 d.ensures (λ j. (elem_Fits w8 w8 d.result d.type_inv.0 j d.type_inv.1.1 tt).fits) refl refl in (
+    let first = disk_added a.self.now.g a.self.now.stripe.now a.self.now.i d.result (omega arith) (omega arith) (omega arith) l.invariant.1 at.0 d.ensures (bytes d.result d.type_inv.0 d.type_inv.1.1) refl refl in (
       lower,
       disk_added a.self.now.g a.self.now.stripe.now a.self.now.i e.result (omega arith) (omega arith) (omega arith) first lower e.ensures
-          (λ j. (elem_Fits w8 w8 e.result e.type_inv.0 j e.type_inv.1.1 tt).fits)
+          (bytes e.result e.type_inv.0 e.type_inv.1.1)
           c.add_two_disks.ensures.0
           c.add_two_disks.ensures.1,
     )

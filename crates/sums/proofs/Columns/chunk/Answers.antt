@@ -1,17 +1,27 @@
--- `sums::Columns::chunk` meets its contract: what lies in the buffer is lent as a part.
-use mathlib.Core.Path.{◌∙◌}
+-- `sums::Columns::chunk` meets its contract.
+use mathlib.Core.Path.{sym, ap, ◌∙◌}
+use Prim.Native.Nat.{ℕ}
 use native.Mathlib.Omega.{arith}
-use Rattle.stretch.proofs.Laws.{ends, loaded_there}
+use lib.ListN.{get_or}
+use Rattle.base.proofs.Table.{tabulate_same}
+use Rattle.chunk.specs.Chunk.{width}
+use Rattle.column.specs.Column.{Column}
+use Rattle.shape.proofs.Stretch.{block_start}
+use Rattle.stretch.proofs.Laws.{ends, column_of_lem}
 use Rattle.sums.proofs.Columns.chunk.Goals as goal
 
-pub overflow_add-at : goal.overflow_add-at
-overflow_add-at c = omega (arith, (ends c.args.self.now.has c.requires c.start.ensures))
+pub overflow_add-start : goal.overflow_add-start
+overflow_add-start c = omega (arith, ends c.args.self.now.has c.requires c.start.ensures)
 
-pub overflow_add-at-2 : goal.overflow_add-at-2
-overflow_add-at-2 c = omega (arith, (ends c.args.self.now.has c.requires c.start.ensures))
-
-pub slice_bounds-load-end : goal.slice_bounds-load-end
-slice_bounds-load-end c = (ends c.args.self.now.has c.requires c.start.ensures)
+pub load-requires : goal.load-requires
+load-requires c = ends c.args.self.now.has c.requires c.start.ensures
 
 pub returns : goal.returns
-returns c = c.load.ensures ∙ loaded_there c.args.self.now.has c.requires c.start.ensures
+returns c =
+    let h = c.args.self.now.has in
+    let role = c.args.role in
+    c.load.ensures
+    ∙ tabulate_same width
+    (λ j l.
+    ap (λ (a : ℕ). get_or c.args.self.now.stripe.now a 0) (omega (arith, block_start c.args.self.now.g c.args.self.now.stripe.now role h.shaped c.requires c.start.ensures))
+    ∙ sym (ap (λ (e : Column). e role) (column_of_lem h j l)))
