@@ -1,4 +1,8 @@
 // A stretch of columns as a chunk: the bytes of one role in the w columns from i on.
+//
+// Here and in the crates above, `g` and `stripe` stay two parameters: the public functions take any two, and a struct with a
+// `&mut [u8]` would owe, in each function that sets bytes, that the geometry and the borrow are the same after it. Nor are `i` and
+// `w` a value with them: each call gives another width (`WIDTH`, a block's, what is left over), and would write the value out.
 #![tactic(auto)]
 
 ghost use Rattle.std.specs.Prelude.{◌≡◌, ◌+◌, ◌-◌, min, ltb};

@@ -1,5 +1,5 @@
 // The sums over the disks in a stretch of columns, by Horner's rule (equation 21) from the highest
-// disk down. A stripe that has not these columns is taken as 00.
+// disk down. A stripe that has not these columns is taken as 00. What sets bytes takes `g` and `stripe` apart, as `stretch` does.
 #![tactic(auto)]
 
 ghost use Rattle.std.specs.Prelude.{◌≡◌, ℕ, ⊤, ◌+◌, ◌≤◌, ◌<◌, length, get_or};
@@ -172,7 +172,7 @@ pub fn sum_without(g: Geometry, stripe: &[u8], i: usize, w: usize, x: usize) -> 
     p
 }
 
-// A chunk's width of columns that a stripe has, to be read.
+// A chunk's width of columns that a stripe has, to be read. `from` and `to` below are no `Range`, since that is not `Copy`.
 #[derive(Clone, Copy)]
 struct Columns<'a> {
     g: Geometry,

@@ -1,4 +1,5 @@
-// Small writes to a stripe: a stretch of one data disk is set, and what changed is added to P and Q.
+// Small writes to a stripe: a stretch of one data disk is set, and what changed is added to P and Q. `g` and `stripe` stay two
+// parameters, as in `stretch`.
 #![tactic(auto)]
 
 ghost use Rattle.std.specs.Prelude.{◌≡◌, ◌+◌, ◌<◌, ◌≤◌, length, get_or};
