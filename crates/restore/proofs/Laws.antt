@@ -1,13 +1,19 @@
--- What a plan makes of a stripe that has its roles, column after column, and encode as a rebuild of both parities.
+-- What a plan makes of a stripe that has its roles, column after column; the sums without two roles, as the columns have them, and without both
+-- parities; and encode as a rebuild of both parities.
 -- Assumes nothing.
-use mathlib.Core.Path.{◌≡◌, sym, ap₂, ◌∙◌}
+use mathlib.Core.Path.{◌≡◌, refl, sym, ap, ap₂, ◌∙◌}
+use mathlib.Core.Bool.{true}
 use Prim.Native.Nat.{ℕ, ◌+◌, ◌-◌, ◌≤◌, ◌<◌, min}
 use native.Mathlib.Omega.{arith}
+use borrow.Author.Tests.{lt-ltb}
 use mathlib.Core.List.{List}
+use Rattle.base.proofs.Table.{tabulate_same}
 use Rattle.gf256.specs.Field.{element, sum}
 use Rattle.gf256.proofs.Laws.{zero_product, sum_zero}
-use Rattle.column.specs.Column.{Column, parity_q, syndrome_p, encode_column, reed_solomon}
+use Rattle.column.specs.Column.{Column, parity_q, syndrome_p, syndrome_q, encode_column, reed_solomon}
+use Rattle.losses.specs.declared.Pair.{Pair}
 use Rattle.losses.specs.declared.Plan.{Plan}
+use Rattle.losses.specs.declared.Plan.TheVariants.{ByP, FromData, ByBoth}
 use Rattle.losses.specs.declared.Rule.TheVariants.{Carried}
 use Rattle.losses.specs.Losses.{without, solved, restored_by, KnownPlan}
 use Rattle.losses.proofs.Again.{restored_again}
@@ -19,20 +25,37 @@ use Rattle.shape.specs.Columns.{ColumnsMapped}
 use Rattle.shape.proofs.Accepts.{shape_accepts}
 use Rattle.shape.proofs.Columns.{columns_count, columns_again, columns_all}
 use Rattle.chunk.specs.Chunk.{width}
-use Rattle.stretch.specs.Stretch.{Has}
+use Rattle.chunk.specs.declared.Sums.{Sums}
+use Rattle.stretch.specs.Stretch.{Has, column_of}
+use Rattle.stretch.proofs.Laws.{seen}
+use Rattle.sums.specs.Sums.{parities_of, sums_of}
 use Rattle.sums.specs.Strip.{strip, HasStrip}
-use Rattle.parts.proofs.Laws.{known_true}
-use Rattle.restore.specs.Restore.{restored}
+use Rattle.restore.specs.Restore.{known_plan, restored, Survivors}
+
+known_true : (n : ℕ) (plan : Plan) → KnownPlan n plan → known_plan n plan ≡ true
+known_true n (ByP x) h = lt-ltb x (n + 2) h
+known_true n (FromData with_p) h = refl
+known_true n (ByBoth x y rule) h = rw (lt-ltb x (n + 2) h.0, lt-ltb y (n + 2) h.1)
 
 pub restored_is : (g : Geometry) (plan : Plan) (s : List ℕ) → WellShaped g s → KnownPlan g.n plan → restored g plan s ≡ lift g (λ i c. restored_by g.n plan c) s
 restored_is g plan s shaped h = rw (shape_accepts g s shaped, known_true g.n plan h)
 
--- the columns of a chunk that a step restores
-pub chunk_has : {g : Geometry} {s : List ℕ} {i : ℕ} → WellShaped g s → i + width ≤ g.b → Has g s i width
-chunk_has shaped fits = record { shaped = shaped; fits = fits; held = omega arith }
-
 pub strip_has : {g : Geometry} {s : List ℕ} {i : ℕ} → WellShaped g s → i + strip ≤ g.b → HasStrip g s i
 strip_has shaped fits = record { shaped = shaped; fits = fits }
+
+-- P* and Q* without two roles are those of the columns; without both parities they are the parities of the data
+pub survivors_seen : {g : Geometry} {s : List ℕ} {i w : ℕ} {pair : Pair} {sums : Sums} → Has g s i w
+    → sums ≡ sums_of g.n (λ j. without pair.x pair.y (column_of g s i w j))
+    → Survivors g s i w pair sums
+survivors_seen {g} {pair = pair} h is =
+    record {
+      first = seen h (λ e. syndrome_p g.n (without pair.x pair.y e)) (ap (λ (r : Sums). r.p) is);
+      second = seen h (λ e. syndrome_q reed_solomon g.n (without pair.x pair.y e)) (ap (λ (r : Sums). r.q) is);
+    }
+
+pub sums_of_data : (n : ℕ) (f : ℕ → Column) → sums_of n (λ j. without n (n + 1) (f j)) ≡ parities_of n f
+sums_of_data n f =
+    ap₂ (λ (p q : List ℕ). record { p = p; q = q }) (tabulate_same width (λ j l. (parities_lost n (f j)).0)) (tabulate_same width (λ j l. (parities_lost n (f j)).1))
 
 -- the columns below `done` are restored: what the loop keeps, whose last step may pass the end
 pub record Begun (g : Geometry) (plan : Plan) (done : ℕ) (s t : List ℕ) : Type 0 where

@@ -12,13 +12,13 @@ ghost use Rattle.shape.specs.Layout.{lift};
 ghost use Rattle.shape.specs.Refusals.{WellShaped};
 ghost use Rattle.shape.specs.Columns.{ColumnsMapped};
 ghost use Rattle.stretch.specs.Stretch.{Has, column_of};
-ghost use Rattle.sums.specs.Sums.{sums_of};
-ghost use Rattle.sums.specs.Strip.{strip, HasStrip};
-ghost use Rattle.restore.specs.Restore.{restored, Survivors};
+ghost use Rattle.sums.specs.Sums.{parities_of, sums_of};
+ghost use Rattle.sums.specs.Strip.{strip};
+ghost use Rattle.restore.specs.Restore.{known_plan, restored, Survivors};
 
 use chunk::{Sums, WIDTH};
 use gf256::Element;
-use losses::{Plan, Rule};
+use losses::{Pair, Plan, Rule};
 use shape::Geometry;
 use sums::{CHUNKS, STRIP};
 
@@ -29,13 +29,24 @@ pub fn restore(g: Geometry, stripe: &mut [u8], plan: Plan)
     if shape::encode_refusal(g, stripe.len()).is_err() {
         return;
     }
-    if !parts::has_roles(g.n, plan) {
+    if !has_roles(g.n, plan) {
         return;
     }
     restore_known(g, stripe, plan);
 }
 
-// By strips where that is faster.
+// Whether a stripe with n data disks has the roles of a plan.
+pub fn has_roles(n: usize, plan: Plan) -> bool
+    ensures { result ≡ known_plan n plan }
+{
+    match plan {
+        Plan::ByP(x) => stretch::has_role(n, x),
+        Plan::FromData(_) => true,
+        Plan::ByBoth(x, y, _) => stretch::has_role(n, x) && stretch::has_role(n, y),
+    }
+}
+
+// By strips where that is faster. The plan is asked for once a call, so that no closure or trait would be plainer.
 fn restore_known(g: Geometry, stripe: &mut [u8], plan: Plan)
     requires { WellShaped g stripe.old × KnownPlan g.n plan }
     ensures { stripe.new ≡ lift g (λ i c. restored_by g.n plan c) stripe.old }
@@ -51,7 +62,8 @@ fn restore_known(g: Geometry, stripe: &mut [u8], plan: Plan)
         }
         Plan::ByBoth(x, y, rule) => {
             if sums::in_strips(g) {
-                restore_by(g, stripe, StripByBoth { x, y, rule });
+                let pair = Pair { x, y };
+                restore_by(g, stripe, StripByBoth { pair, rule });
             } else {
                 restore_columns(g, stripe, plan);
             }
@@ -70,8 +82,7 @@ fn restore_parities(g: Geometry, stripe: &mut [u8])
     }
     if sums::in_strips(g) {
         let step = StripByBoth {
-            x: g.n,
-            y: g.n + 1,
+            pair: Pair { x: g.n, y: g.n + 1 },
             rule: Rule::Carried(Element(0)),
         };
         restore_by(g, stripe, step);
@@ -80,19 +91,42 @@ fn restore_parities(g: Geometry, stripe: &mut [u8])
     restore_columns(g, stripe, Plan::FromData(true));
 }
 
-// By chunks; a block below one is a part.
+// By chunks; a block below one is a part. Here and in `restore_part`, too, the plan is asked for once a call.
 fn restore_columns(g: Geometry, stripe: &mut [u8], plan: Plan)
     requires { WellShaped g stripe.old × KnownPlan g.n plan }
     ensures { stripe.new ≡ lift g (λ i c. restored_by g.n plan c) stripe.old }
 {
     if g.b < WIDTH {
-        parts::restore_part(g, stripe, plan);
+        restore_part(g, stripe, plan);
         return;
     }
     match plan {
         Plan::ByP(x) => restore_by(g, stripe, ByP { x }),
         Plan::FromData(both) => restore_by(g, stripe, FromData { both }),
-        Plan::ByBoth(x, y, rule) => restore_by(g, stripe, ByBoth { x, y, rule }),
+        Plan::ByBoth(x, y, rule) => {
+            let pair = Pair { x, y };
+            restore_by(g, stripe, ByBoth { pair, rule });
+        }
+    }
+}
+
+// A block that a chunk can hold.
+fn restore_part(g: Geometry, stripe: &mut [u8], plan: Plan)
+    requires { Has g stripe.old 0 g.b × KnownPlan g.n plan }
+    ensures { stripe.new ≡ lift g (λ i c. restored_by g.n plan c) stripe.old }
+{
+    match plan {
+        Plan::ByP(x) => restore_by_p(g, stripe, 0, g.b, x),
+        Plan::FromData(both) => {
+            let pair = Pair { x: g.n, y: g.n + 1 };
+            let sums = sums::part_survivors(g, stripe, 0, g.b, pair);
+            set_from_data(g, stripe, 0, g.b, both, sums);
+        }
+        Plan::ByBoth(x, y, rule) => {
+            let pair = Pair { x, y };
+            let sums = sums::part_survivors(g, stripe, 0, g.b, pair);
+            set_solved(g, stripe, 0, g.b, pair, rule, sums);
+        }
     }
 }
 
@@ -136,8 +170,7 @@ impl Step for ByP {
     ghost plan = { λ it. Plan.ByP it.x };
 
     fn restore(self, g: Geometry, stripe: &mut [u8], i: usize) {
-        let p = sums::sum_without(g, stripe, i, WIDTH, self.x);
-        stretch::set(g, stripe, self.x, i, WIDTH, p);
+        restore_by_p(g, stripe, i, WIDTH, self.x);
     }
 
     ghost some = { Prim.search rules };
@@ -156,13 +189,8 @@ impl Step for FromData {
     ghost plan = { λ it. Plan.FromData it.both };
 
     fn restore(self, g: Geometry, stripe: &mut [u8], i: usize) {
-        let s = sums::parities(g, stripe, i);
-        let p = s.p;
-        let q = s.q;
-        stretch::set(g, stripe, g.n + 1, i, WIDTH, q);
-        if self.both {
-            stretch::set(g, stripe, g.n, i, WIDTH, p);
-        }
+        let sums = sums::parities(g, stripe, i);
+        set_from_data(g, stripe, i, WIDTH, self.both, sums);
     }
 
     ghost some = { Prim.search rules };
@@ -170,8 +198,7 @@ impl Step for FromData {
 
 #[derive(Clone, Copy)]
 struct ByBoth {
-    x: usize,
-    y: usize,
+    pair: Pair,
     rule: Rule,
 }
 
@@ -180,13 +207,13 @@ impl Step for ByBoth {
 
     const COLUMNS: usize = WIDTH;
 
-    ghost plan = { λ it. Plan.ByBoth it.x it.y it.rule };
+    ghost plan = { λ it. Plan.ByBoth it.pair.x it.pair.y it.rule };
 
     fn restore(self, g: Geometry, stripe: &mut [u8], i: usize) {
-        let s = sums::survivors(g, stripe, i, self.x, self.y);
+        let sums = sums::survivors(g, stripe, i, self.pair);
         match self.rule {
-            Rule::Mixed(a, b) => set_mixed(g, stripe, i, self.x, self.y, a, b, s),
-            Rule::Carried(c) => set_carried(g, stripe, i, self.x, self.y, c, s),
+            Rule::Mixed(a, b) => set_mixed(g, stripe, i, self.pair, a, b, sums),
+            Rule::Carried(c) => set_carried(g, stripe, i, self.pair, c, sums),
         }
     }
 
@@ -196,8 +223,7 @@ impl Step for ByBoth {
 // The same of a strip, from the sums that are left in two arrays.
 #[derive(Clone, Copy)]
 struct StripByBoth {
-    x: usize,
-    y: usize,
+    pair: Pair,
     rule: Rule,
 }
 
@@ -206,21 +232,70 @@ impl Step for StripByBoth {
 
     const COLUMNS: usize = STRIP;
 
-    ghost plan = { λ it. Plan.ByBoth it.x it.y it.rule };
+    ghost plan = { λ it. Plan.ByBoth it.pair.x it.pair.y it.rule };
 
     fn restore(self, g: Geometry, stripe: &mut [u8], i: usize) {
         let mut p = [0u8; STRIP];
         let mut q = [0u8; STRIP];
-        sums::strip_survivors(g, stripe, i, self.x, self.y, &mut p, &mut q);
+        sums::strip_survivors(g, stripe, i, self.pair, &mut p, &mut q);
         for m in 0..CHUNKS {
             let c = WIDTH * m;
-            let a = chunk::load(&p[c..c + WIDTH]);
-            let b = chunk::load(&q[c..c + WIDTH]);
-            set_solved(g, stripe, i + c, self.x, self.y, self.rule, a, b);
+            let sums = Sums {
+                p: chunk::load(&p[c..c + WIDTH]),
+                q: chunk::load(&q[c..c + WIDTH]),
+            };
+            set_solved(g, stripe, i + c, WIDTH, self.pair, self.rule, sums);
         }
     }
 
     ghost some = { Prim.search rules };
+}
+
+// The bytes of one role in w columns, by equation 1 alone. It is written into its calls, so that the compiler knows the width of
+// a whole chunk.
+#[inline(always)]
+fn restore_by_p(g: Geometry, stripe: &mut [u8], i: usize, w: usize, x: usize)
+    requires { Has g stripe.old i w × (x < g.n + 2) }
+    ensures { ColumnsMapped g i w (λ j c. restored_by g.n (Plan.ByP x) c) stripe.old stripe.new }
+{
+    let p = sums::sum_without(g, stripe, i, w, x);
+    stretch::set(g, stripe, x, i, w, p);
+}
+
+// Q of w columns and, where true, P, as the data give them. Written into its calls for the same reason.
+#[inline(always)]
+fn set_from_data(g: Geometry, stripe: &mut [u8], i: usize, w: usize, both: bool, sums: Sums)
+    requires { Has g stripe.old i w × (sums ≡ parities_of g.n (column_of g stripe.old i w)) }
+    ensures { ColumnsMapped g i w (λ j c. restored_by g.n (Plan.FromData both) c) stripe.old stripe.new }
+{
+    let p = sums.p;
+    let q = sums.q;
+    stretch::set(g, stripe, g.n + 1, i, w, q);
+    if both {
+        stretch::set(g, stripe, g.n, i, w, p);
+    }
+}
+
+// The bytes of both roles in w columns of a part or a strip, solved from P* and Q* without them. Written into its calls for the
+// same reason.
+#[inline(always)]
+fn set_solved(
+    g: Geometry,
+    stripe: &mut [u8],
+    i: usize,
+    w: usize,
+    pair: Pair,
+    rule: Rule,
+    sums: Sums,
+)
+    requires { Has g stripe.old i w × (pair.x < g.n + 2) × (pair.y < g.n + 2) × Survivors g stripe.old i w pair sums }
+    ensures { ColumnsMapped g i w (λ j c. solved g.n pair.x pair.y rule c) stripe.old stripe.new }
+{
+    let new = losses::solve(rule, sums);
+    let on_x = new.first;
+    let on_y = new.second;
+    stretch::set(g, stripe, pair.y, i, w, on_y);
+    stretch::set(g, stripe, pair.x, i, w, on_x);
 }
 
 // The first is a p + b q, the second what is left of p. `set_solved` is not called here: this is faster for a chunk
@@ -229,52 +304,30 @@ fn set_mixed(
     g: Geometry,
     stripe: &mut [u8],
     i: usize,
-    x: usize,
-    y: usize,
+    pair: Pair,
     a: Element,
     b: Element,
-    s: Sums,
+    sums: Sums,
 )
-    requires { Has g stripe.old i width × (x < g.n + 2) × (y < g.n + 2) × (s ≡ sums_of g.n (λ j. without x y (column_of g stripe.old i width j))) }
-    ensures { ColumnsMapped g i width (λ j c. solved g.n x y (Rule.Mixed a b) c) stripe.old stripe.new }
+    requires { Has g stripe.old i width × (pair.x < g.n + 2) × (pair.y < g.n + 2) × (sums ≡ sums_of g.n (λ j. without pair.x pair.y (column_of g stripe.old i width j))) }
+    ensures { ColumnsMapped g i width (λ j c. solved g.n pair.x pair.y (Rule.Mixed a b) c) stripe.old stripe.new }
 {
-    let mut p = s.p;
-    let q = s.q;
+    let mut p = sums.p;
+    let q = sums.q;
     let first = products::combine(a, p, b, q);
     chunk::add(&mut p, &first);
-    stretch::set(g, stripe, y, i, WIDTH, p);
-    stretch::set(g, stripe, x, i, WIDTH, first);
+    stretch::set(g, stripe, pair.y, i, WIDTH, p);
+    stretch::set(g, stripe, pair.x, i, WIDTH, first);
 }
 
 // The first is p, the second q + c p. Apart from `set_solved` for the same reason.
-fn set_carried(g: Geometry, stripe: &mut [u8], i: usize, x: usize, y: usize, c: Element, s: Sums)
-    requires { Has g stripe.old i width × (x < g.n + 2) × (y < g.n + 2) × (s ≡ sums_of g.n (λ j. without x y (column_of g stripe.old i width j))) }
-    ensures { ColumnsMapped g i width (λ j c'. solved g.n x y (Rule.Carried c) c') stripe.old stripe.new }
+fn set_carried(g: Geometry, stripe: &mut [u8], i: usize, pair: Pair, c: Element, sums: Sums)
+    requires { Has g stripe.old i width × (pair.x < g.n + 2) × (pair.y < g.n + 2) × (sums ≡ sums_of g.n (λ j. without pair.x pair.y (column_of g stripe.old i width j))) }
+    ensures { ColumnsMapped g i width (λ j c'. solved g.n pair.x pair.y (Rule.Carried c) c') stripe.old stripe.new }
 {
-    let p = s.p;
-    let mut q = s.q;
+    let p = sums.p;
+    let mut q = sums.q;
     products::add_product(&mut q, c, p);
-    stretch::set(g, stripe, y, i, WIDTH, q);
-    stretch::set(g, stripe, x, i, WIDTH, p);
-}
-
-// The bytes of both roles in a chunk of columns, solved from their P* and Q*.
-fn set_solved(
-    g: Geometry,
-    stripe: &mut [u8],
-    i: usize,
-    x: usize,
-    y: usize,
-    rule: Rule,
-    p: [u8; WIDTH],
-    q: [u8; WIDTH],
-)
-    requires { Has g stripe.old i width × (x < g.n + 2) × (y < g.n + 2) × Survivors g stripe.old i x y p q }
-    ensures { ColumnsMapped g i width (λ j c. solved g.n x y rule c) stripe.old stripe.new }
-{
-    let new = losses::solve(rule, Sums { p, q });
-    let on_x = new.first;
-    let on_y = new.second;
-    stretch::set(g, stripe, y, i, WIDTH, on_y);
-    stretch::set(g, stripe, x, i, WIDTH, on_x);
+    stretch::set(g, stripe, pair.y, i, WIDTH, q);
+    stretch::set(g, stripe, pair.x, i, WIDTH, p);
 }

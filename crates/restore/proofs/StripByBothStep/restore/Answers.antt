@@ -28,8 +28,8 @@ set_solved-requires c =
       c.requires.2.0,
       c.requires.2.1,
       record {
-        first = λ j h. chunk_seen held k fits a.self.x a.self.y (syndrome_p n) _ sums.first c.load-a.ensures j h ∙ ap (λ (e : Column). syndrome_p n (without a.self.x a.self.y e)) (same j h);
-        second = λ j h. chunk_seen held k fits a.self.x a.self.y (syndrome_q reed_solomon n) _ sums.second c.load-b.ensures j h ∙ ap (λ (e : Column). syndrome_q reed_solomon n (without a.self.x a.self.y e)) (same j h);
+        first = λ j h. chunk_seen held k fits a.self.pair.x a.self.pair.y (syndrome_p n) _ sums.first c.load.ensures j h ∙ ap (λ (e : Column). syndrome_p n (without a.self.pair.x a.self.pair.y e)) (same j h);
+        second = λ j h. chunk_seen held k fits a.self.pair.x a.self.pair.y (syndrome_q reed_solomon n) _ sums.second c.load-in-loop-m.ensures j h ∙ ap (λ (e : Column). syndrome_q reed_solomon n (without a.self.pair.x a.self.pair.y e)) (same j h);
       },
     )
 

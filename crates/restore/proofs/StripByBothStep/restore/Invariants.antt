@@ -7,4 +7,4 @@ use Rattle.shape.specs.Columns.{ColumnsMapped}
 use Rattle.restore.proofs.StripByBothStep.restore.Given as goal
 
 abbrev pub invariant-loop-m : goal.invariant-loop-m
-invariant-loop-m l = ColumnsMapped l.g l.i (width * l.m) (λ j c. solved l.g.n l.self.x l.self.y l.self.rule c) l.initial.stripe l.stripe
+invariant-loop-m l = ColumnsMapped l.g l.i (width * l.m) (λ j c. solved l.g.n l.self.pair.x l.self.pair.y l.self.rule c) l.initial.stripe l.stripe
