@@ -4,7 +4,7 @@
 use mathlib.Core.Path.{◌≡◌, refl, sym, ap, subst, ◌∙◌}
 use mathlib.Core.Bool.{Bool, true, false}
 use mathlib.Core.List.{List, ◌++◌}
-use Prim.Native.Nat.{ℕ, ◌+◌, ◌-◌, ◌≤◌}
+use Prim.Native.Nat.{ℕ, ◌+◌, ◌-◌, ◌≤◌, ◌<◌, min}
 use native.Mathlib.Omega.{arith}
 use borrow.Rule.Slice.PartMut.{put_mid, Post-is, same_len_mid}
 use lib.ListN.{length, take, drop}
@@ -64,6 +64,19 @@ module _ {g : Geometry} {s : List ℕ} {keep : Bool} {before : List ℕ} where
 
       part : WithSummary (tabulate w (λ j. f (i + j))) v m
       part = summary_as (ap (λ (k : ℕ). tabulate k (λ j. f (i + j))) (part_length room at (at + w) (omega arith) holds ∙ omega arith)) told
+
+  -- a strip more, which may begin among columns that were checked before
+  pub checked_strip : {room m : List ℕ} {done i found v r at : ℕ} → RoomFor g keep before → strip ≤ g.b → done < g.b → i ≡ min done (g.b - strip)
+      → CheckedBelow g s keep before room (min done g.b) found
+      → at ≡ choose keep i 0
+      → WithSummary (tabulate (length (take (at + strip - at) (drop at room))) (λ j. verdict g.n (column g s (i + j)))) v m
+      → r ≡ joined found v
+      → CheckedBelow g s keep before (put_mid at (at + strip - at) room m) (min (done + strip) g.b) r
+  checked_strip {i = i} has wide left next below is told step =
+      let fits : i + strip ≤ g.b = omega (arith, wide, next) in
+      let holds = room_fits keep has i strip (omega arith) fits in
+      checked_count (omega (arith, wide, left, next))
+      (checked_more i strip below (omega (arith, wide, left, next)) (omega (arith, wide, left, next)) fits is (omega (arith, holds, is, below.long)) told step)
 
   pub checked_all : {room : List ℕ} {i found : ℕ} → CheckedBelow g s keep before room i found → i ≡ g.b → CheckedInto g s keep found room
   checked_all below all =
