@@ -16,7 +16,7 @@ ghost use Rattle.verdict.specs.Summary.{WithSummary};
 ghost use Rattle.compare.specs.Compare.{summary_of, CompareCall, RoomFor, CheckedInto};
 ghost use Rattle.compare.specs.Repair.{unclear, repair_refusal};
 
-use chunk::WIDTH;
+use chunk::{Sums, WIDTH};
 use shape::{Geometry, Refusal};
 use sums::{CHUNKS, STRIP};
 
@@ -103,11 +103,13 @@ fn check_strip(g: Geometry, stripe: &[u8], i: usize, room: &mut [u16]) -> u16
     let mut found = 0;
     for m in 0..CHUNKS {
         let c = WIDTH * m;
-        let a = chunk::load(&p[c..c + WIDTH]);
-        let b = chunk::load(&q[c..c + WIDTH]);
+        let s = Sums {
+            p: chunk::load(&p[c..c + WIDTH]),
+            q: chunk::load(&q[c..c + WIDTH]),
+        };
         found = verdict::joined(
             found,
-            verdict::verdicts_of(g.n, &a, &b, found, &mut room[c..c + WIDTH]),
+            verdict::verdicts_of(g.n, &s, found, &mut room[c..c + WIDTH]),
         );
     }
     found
@@ -140,9 +142,7 @@ fn check_chunk(g: Geometry, stripe: &[u8], i: usize, guess: u16, room: &mut [u16
     ensures { WithSummary (tabulate (length room.old) (λ j. verdict g.n (column g stripe.now (i + j)))) result room.new }
 {
     let s = sums::syndromes(g, stripe, i);
-    let p = s.p;
-    let q = s.q;
-    verdict::verdicts_of(g.n, &p, &q, guess, room)
+    verdict::verdicts_of(g.n, &s, guess, room)
 }
 
 // The same of fewer columns. The functions of a whole chunk know its width, and these do not. A part without differences is told
@@ -152,11 +152,9 @@ fn check_part(g: Geometry, stripe: &[u8], i: usize, room: &mut [u16]) -> u16
     ensures { WithSummary (tabulate (length room.old) (λ j. verdict g.n (column g stripe.now (i + j)))) result room.new }
 {
     let s = sums::part_survivors(g, stripe, i, room.len(), g.n + 2, g.n + 2);
-    let p = s.p;
-    let q = s.q;
-    if chunk::are_zero(&p, &q) {
+    if chunk::are_zero(&s.p, &s.q) {
         room.fill(0);
         return 0;
     }
-    verdict::verdicts_by_place(g.n, &p, &q, 0, room)
+    verdict::verdicts_by_place(g.n, &s, 0, room)
 }

@@ -10,7 +10,7 @@ ghost use Rattle.verdict.specs.Faulty.{faulty_of};
 ghost use Rattle.verdict.specs.Summary.{joined, WithSummary};
 ghost use Rattle.verdict.specs.Verdicts.{verdicts_of, unclean};
 
-use chunk::WIDTH;
+use chunk::{Sums, WIDTH};
 use column::Device;
 use gf256::Element;
 
@@ -70,60 +70,55 @@ pub fn faulty_device(summary: u16) -> Option<Device>
     }
 }
 
-// The verdicts on the columns of a chunk whose P* and Q* are p and q, one for each place of the
+// The verdicts on the columns of a chunk whose P* and Q* are these, one for each place of the
 // room, and their summary. A whole chunk without differences, the common case, is told by one test. Any
 // guess may be given; the summary of the columns before is found fastest.
-pub fn verdicts_of(n: usize, p: &[u8; WIDTH], q: &[u8; WIDTH], guess: u16, room: &mut [u16]) -> u16
-    ensures { WithSummary (verdicts_of n p.now q.now (length room.old)) result room.new }
+pub fn verdicts_of(n: usize, sums: &Sums, guess: u16, room: &mut [u16]) -> u16
+    ensures { WithSummary (verdicts_of n sums.now.p sums.now.q (length room.old)) result room.new }
 {
     if room.len() == WIDTH {
-        if chunk::are_zero(p, q) {
+        if chunk::are_zero(&sums.p, &sums.q) {
             room.fill(0);
             return 0;
         }
     }
-    verdicts_by_place(n, p, q, guess, room)
+    verdicts_by_place(n, sums, guess, room)
 }
 
 // The same, without that test. Where one device is spoiled, all unclean columns of a whole chunk agree,
 // and none is looked at by itself.
-pub fn verdicts_by_place(
-    n: usize,
-    p: &[u8; WIDTH],
-    q: &[u8; WIDTH],
-    guess: u16,
-    room: &mut [u16],
-) -> u16
-    ensures { WithSummary (verdicts_of n p.now q.now (length room.old)) result room.new }
+pub fn verdicts_by_place(n: usize, sums: &Sums, guess: u16, room: &mut [u16]) -> u16
+    ensures { WithSummary (verdicts_of n sums.now.p sums.now.q (length room.old)) result room.new }
 {
     if room.len() == WIDTH {
-        if let Some(common) = common_verdict(n, *p, *q, guess) {
-            fill_unclean(p, q, common, room);
+        if let Some(common) = common_verdict(n, sums, guess) {
+            fill_unclean(sums, common, room);
             return common;
         }
     }
-    one_by_one(n, p, q, room)
+    one_by_one(n, sums, room)
 }
 
 // The common verdict of the unclean columns of a chunk, 0 where all are clean, and none where they may
 // not agree. A verdict depends on Q*/P* alone, so that they agree where Q* is the same multiple of P* at
 // every place. The multiple that is guessed is tried first: it needs no division.
-fn common_verdict(n: usize, p: [u8; WIDTH], q: [u8; WIDTH], guess: u16) -> Option<u16>
-    ensures { IfSome result (λ v. WithSummary (verdicts_of n p q width) v (each (unclean v p q))) }
+fn common_verdict(n: usize, sums: &Sums, guess: u16) -> Option<u16>
+    ensures { IfSome result (λ v. WithSummary (verdicts_of n sums.now.p sums.now.q width) v (each (unclean v sums.now.p sums.now.q))) }
 {
-    if chunk::are_zero(&p, &p) {
-        return Some(if chunk::are_zero(&q, &q) { 0 } else { 2 });
+    if chunk::are_zero(&sums.p, &sums.p) {
+        let clean = chunk::are_zero(&sums.q, &sums.q);
+        return Some(if clean { 0 } else { 2 });
     }
-    verdict_by(n, p, q, guessed(guess)).or_else(|| verdict_by(n, p, q, ratio(largest_pair(&p, &q))))
+    verdict_by(n, *sums, guessed(guess)).or_else(|| verdict_by(n, *sums, ratio(largest_pair(sums))))
 }
 
 // The common verdict where Q* is c P* at every place, and none where it is not.
-fn verdict_by(n: usize, p: [u8; WIDTH], q: [u8; WIDTH], c: Element) -> Option<u16>
-    requires { all_zero p p ≡ false }
-    ensures { IfSome result (λ v. WithSummary (verdicts_of n p q width) v (each (unclean v p q))) }
+fn verdict_by(n: usize, sums: Sums, c: Element) -> Option<u16>
+    requires { all_zero sums.p sums.p ≡ false }
+    ensures { IfSome result (λ v. WithSummary (verdicts_of n sums.p sums.q width) v (each (unclean v sums.p sums.q))) }
 {
-    let mut rest = q;
-    products::add_product(&mut rest, c, p);
+    let mut rest = sums.q;
+    products::add_product(&mut rest, c, sums.p);
     if !chunk::are_zero(&rest, &rest) {
         None
     } else if c.0 == 0 {
@@ -151,30 +146,30 @@ fn ratio(both: u16) -> Element {
 
 // The largest pair: its P* is not 00 where any is not. No place is tested by itself, so that the loop
 // becomes vector code.
-fn largest_pair(p: &[u8; WIDTH], q: &[u8; WIDTH]) -> u16 {
+fn largest_pair(sums: &Sums) -> u16 {
     let mut largest = 0;
     for j in 0..WIDTH {
-        largest = largest.max(u16::from_be_bytes([p[j], q[j]]));
+        largest = largest.max(u16::from_be_bytes([sums.p[j], sums.q[j]]));
     }
     largest
 }
 
 // v where P* and Q* are not both 00, and 0 elsewhere.
-fn fill_unclean(p: &[u8; WIDTH], q: &[u8; WIDTH], v: u16, room: &mut [u16])
+fn fill_unclean(sums: &Sums, v: u16, room: &mut [u16])
     requires { length room.old ≡ width }
-    ensures { room.new ≡ each (unclean v p.now q.now) }
+    ensures { room.new ≡ each (unclean v sums.now.p sums.now.q) }
 {
     for j in 0..WIDTH {
-        room[j] = if p[j] | q[j] == 0 { 0 } else { v };
+        room[j] = if sums.p[j] | sums.q[j] == 0 { 0 } else { v };
     }
 }
 
-fn one_by_one(n: usize, p: &[u8], q: &[u8], room: &mut [u16]) -> u16
-    ensures { WithSummary (verdicts_of n p.now q.now (length room.old)) result room.new }
+fn one_by_one(n: usize, sums: &Sums, room: &mut [u16]) -> u16
+    ensures { WithSummary (verdicts_of n sums.now.p sums.now.q (length room.old)) result room.new }
 {
     let mut found = 0;
     for j in 0..room.len() {
-        let verdict = verdict_of(n, element_at(p, j), element_at(q, j));
+        let verdict = verdict_of(n, element_at(&sums.p, j), element_at(&sums.q, j));
         room[j] = verdict;
         found = joined(found, verdict);
     }

@@ -29,10 +29,10 @@ loop-m-preserved c =
     let next : k + width ≡ width * (l.m + 1) = omega arith in
     let size : length (take (k + width - k) (drop k l.room)) ≡ width = part_length l.room k (k + width) (omega arith) (omega (arith, fits, l.invariant.filled.long)) ∙ omega arith in
     let sums = c.strip_survivors.ensures in
-    let of_p = chunk_seen c.requires.0 k fits (n + 2) (n + 2) (syndrome_p n) _ sums.first c.load-a.ensures in
-    let of_q = chunk_seen c.requires.0 k fits (n + 2) (n + 2) (syndrome_q reed_solomon n) _ sums.second c.load-b.ensures in
-    let told : tabulate (length (take (k + width - k) (drop k l.room))) (λ j. verdict_of n (get_or c.load-a.result j 0) (get_or c.load-b.result j 0)) ≡ tabulate width (λ j. verdict n (column a.g a.stripe.now (a.i + (k + j)))) =
-    ap (λ (w : ℕ). tabulate w (λ j. verdict_of n (get_or c.load-a.result j 0) (get_or c.load-b.result j 0))) size
+    let of_p = chunk_seen c.requires.0 k fits (n + 2) (n + 2) (syndrome_p n) _ sums.first c.load.ensures in
+    let of_q = chunk_seen c.requires.0 k fits (n + 2) (n + 2) (syndrome_q reed_solomon n) _ sums.second c.load-in-loop-m.ensures in
+    let told : tabulate (length (take (k + width - k) (drop k l.room))) (λ j. verdict_of n (get_or c.load.result j 0) (get_or c.load-in-loop-m.result j 0)) ≡ tabulate width (λ j. verdict n (column a.g a.stripe.now (a.i + (k + j)))) =
+    ap (λ (w : ℕ). tabulate w (λ j. verdict_of n (get_or c.load.result j 0) (get_or c.load-in-loop-m.result j 0))) size
     ∙ tabulate_same width (λ j h. ap₂ (verdict_of n) (of_p j h ∙ (none_lost n (column a.g a.stripe.now (a.i + k + j))).0) (of_q j h ∙ (none_lost n (column a.g a.stripe.now (a.i + k + j))).1) ∙ ap (λ (i : ℕ). verdict n (column a.g a.stripe.now i)) (omega arith)) in
     subst (λ (e : ℕ). FilledWithSummary (λ j. verdict n (column a.g a.stripe.now (a.i + j))) strip a.room.now (put_mid k (k + width - k) l.room c.verdicts_of.new.room) e c.joined-found.result) next (summary_filled_part width l.invariant fits (summary_as told c.verdicts_of.ensures) (Post-is k (k + width) l.room (omega arith)) c.joined-found.ensures)
 

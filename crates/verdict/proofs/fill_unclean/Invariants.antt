@@ -5,4 +5,4 @@ use Rattle.verdict.specs.Verdicts.{unclean}
 use Rattle.verdict.proofs.fill_unclean.Given as goal
 
 abbrev pub invariant-loop-j : goal.invariant-loop-j
-invariant-loop-j l = Filled (λ k old. unclean l.v l.p l.q k) width l.initial.room l.room l.j
+invariant-loop-j l = Filled (λ k old. unclean l.v l.sums.p l.sums.q k) width l.initial.room l.room l.j

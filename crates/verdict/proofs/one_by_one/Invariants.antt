@@ -6,4 +6,4 @@ use Rattle.verdict.proofs.Summary.{FilledWithSummary}
 use Rattle.verdict.proofs.one_by_one.Given as goal
 
 abbrev pub invariant-loop-j : goal.invariant-loop-j
-invariant-loop-j l = FilledWithSummary (verdict_at l.n l.p l.q) (length l.initial.room) l.initial.room l.room l.j l.found
+invariant-loop-j l = FilledWithSummary (verdict_at l.n l.sums.p l.sums.q) (length l.initial.room) l.initial.room l.room l.j l.found

@@ -15,15 +15,15 @@ pub returns-then-c-eq0 : goal.returns-then-c-eq0
 returns-then-c-eq0 c =
     let a = c.args in
     let none : a.c.0 ≡ 0 = omega arith in
-    let p = c.well_formed.1.0 in
-    told_multiple a.n a.p a.q a.c.0 (λ j. (elem_Fits w8 w8 a.p p.0 j p.1.1 tt).fits) c.requires
+    let p = c.well_formed.1.0.1.1.0 in
+    told_multiple a.n a.sums.p a.sums.q a.c.0 (λ j. (elem_Fits w8 w8 a.sums.p p.0 j p.1.1 tt).fits) c.requires
     (rw c.add_product.ensures at (sym c.are_zero.ensures ∙ c.if-not-are_zero.false))
     (λ x other h. ap (verdict_of _ x) (ap (λ (r : ℕ). product r x) none ∙ zero_product x) ∙ row_p _ x other)
 
 pub returns-else-c-eq0 : goal.returns-else-c-eq0
 returns-else-c-eq0 c =
     let a = c.args in
-    let p = c.well_formed.1.0 in
-    told_multiple a.n a.p a.q a.c.0 (λ j. (elem_Fits w8 w8 a.p p.0 j p.1.1 tt).fits) c.requires
+    let p = c.well_formed.1.0.1.1.0 in
+    told_multiple a.n a.sums.p a.sums.q a.c.0 (λ j. (elem_Fits w8 w8 a.sums.p p.0 j p.1.1 tt).fits) c.requires
     (rw c.add_product.ensures at (sym c.are_zero.ensures ∙ c.if-not-are_zero.false))
     (λ x other h. row_multiple _ x _ other h (omega arith) (omega arith) ∙ sym c.located.ensures)

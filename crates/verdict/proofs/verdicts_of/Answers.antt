@@ -8,4 +8,4 @@ use Rattle.verdict.proofs.verdicts_of.Goals as goal
 pub returns-then-are_zero : goal.returns-then-are_zero
 returns-then-are_zero c =
     let a = c.args in
-    zeros_told a.n a.p.now a.q.now (length a.room.now) (omega arith) (sym c.are_zero.ensures ∙ c.if-are_zero.true) c.fill.ensures.len (c.fill.ensures.after (λ y e. e))
+    zeros_told a.n a.sums.now.p a.sums.now.q (length a.room.now) (omega arith) (sym c.are_zero.ensures ∙ c.if-are_zero.true) c.fill.ensures.len (c.fill.ensures.after (λ y e. e))
