@@ -10,8 +10,7 @@ ghost use Rattle.chunk.specs.Chunk.{width};
 ghost use Rattle.shape.specs.Layout.{column};
 ghost use Rattle.shape.specs.Number.{number};
 ghost use Rattle.shape.specs.Refusals.{WellShaped};
-ghost use Rattle.stretch.specs.Stretch.{Has};
-ghost use Rattle.sums.specs.Strip.{strip, HasStrip};
+ghost use Rattle.sums.specs.Strip.{strip};
 ghost use Rattle.verdict.specs.Summary.{WithSummary};
 ghost use Rattle.compare.specs.Compare.{summary_of, CompareCall, RoomFor, CheckedInto};
 ghost use Rattle.compare.specs.Repair.{unclear, repair_refusal};
@@ -27,7 +26,8 @@ pub fn compare(g: Geometry, stripe: &[u8], room: &mut [u16]) -> u16
     if shape::check_refusal(g, stripe.len(), room.len()).is_err() {
         return 0;
     }
-    check_into(g, stripe, room, true)
+    let stripe = Stripe { g, bytes: stripe };
+    stripe.check_into(room, true)
 }
 
 // The summary alone: the verdicts are kept nowhere. 0 where the stripe is none.
@@ -37,8 +37,9 @@ pub fn summary_of(g: Geometry, stripe: &[u8]) -> u16
     if shape::encode_refusal(g, stripe.len()).is_err() {
         return 0;
     }
+    let stripe = Stripe { g, bytes: stripe };
     let mut room = [0u16; STRIP];
-    check_into(g, stripe, &mut room, false)
+    stripe.check_into(&mut room, false)
 }
 
 // 9 where a summary names no one device: 3 and 4.
@@ -59,19 +60,6 @@ pub fn repair_refusal(g: Geometry, stripe: &[u8]) -> Result<(), Refusal>
     summary_refusal(summary_of(g, stripe))
 }
 
-// Where the verdicts are not kept, those of a stretch go over those of the one before. `keep` is a flag and no type of room, since
-// it says no more than `place` reads from it.
-fn check_into(g: Geometry, stripe: &[u8], room: &mut [u16], keep: bool) -> u16
-    requires { WellShaped g stripe.now × RoomFor g keep room.old }
-    ensures { CheckedInto g stripe.now keep result room.new }
-{
-    if sums::in_strips(g) {
-        check_strips(g, stripe, room, keep)
-    } else {
-        check_columns(g, stripe, room, keep)
-    }
-}
-
 // Where in the room the verdicts from column i on go.
 fn place(i: usize, keep: bool) -> usize
     ensures { result ≡ choose keep i 0 }
@@ -79,82 +67,108 @@ fn place(i: usize, keep: bool) -> usize
     if keep { i } else { 0 }
 }
 
-// By whole strips, of which the last may take columns again: their verdicts are the same.
-fn check_strips(g: Geometry, stripe: &[u8], room: &mut [u16], keep: bool) -> u16
-    requires { WellShaped g stripe.now × (strip ≤ g.b) × RoomFor g keep room.old }
-    ensures { CheckedInto g stripe.now keep result room.new }
-{
-    let mut found = 0;
-    for done in (0..g.b).step_by(STRIP) {
-        let i = stretch::next_start(g.b, STRIP, done);
-        let at = place(i, keep);
-        found = verdict::joined(found, check_strip(g, stripe, i, &mut room[at..at + STRIP]));
-    }
-    found
+// A stripe that the library takes, to be read. Its methods take it by value: behind a reference it is read again after each chunk,
+// and a check of two disks took a fifth longer.
+#[derive(Clone, Copy)]
+struct Stripe<'a> {
+    g: Geometry,
+    bytes: &'a [u8],
+    ghost shaped: { WellShaped g bytes.now },
 }
 
-fn check_strip(g: Geometry, stripe: &[u8], i: usize, room: &mut [u16]) -> u16
-    requires { HasStrip g stripe.now i × (length room.old ≡ strip) }
-    ensures { WithSummary (tabulate (length room.old) (λ j. verdict g.n (column g stripe.now (i + j)))) result room.new }
-{
-    let mut p = [0u8; STRIP];
-    let mut q = [0u8; STRIP];
-    sums::strip_survivors(g, stripe, i, g.n + 2, g.n + 2, &mut p, &mut q);
-    let mut found = 0;
-    for m in 0..CHUNKS {
-        let c = WIDTH * m;
-        let s = Sums {
-            p: chunk::load(&p[c..c + WIDTH]),
-            q: chunk::load(&q[c..c + WIDTH]),
-        };
-        found = verdict::joined(
-            found,
-            verdict::verdicts_of(g.n, &s, found, &mut room[c..c + WIDTH]),
-        );
+impl Stripe<'_> {
+    // Where the verdicts are not kept, those of a stretch go over those of the one before. `keep` is a flag and no type of room, since
+    // it says no more than `place` reads from it.
+    fn check_into(self, room: &mut [u16], keep: bool) -> u16
+        requires { RoomFor self.g keep room.old }
+        ensures { CheckedInto self.entry.g self.entry.bytes.now keep result room.new }
+    {
+        if sums::in_strips(self.g) {
+            self.check_strips(room, keep)
+        } else {
+            self.check_columns(room, keep)
+        }
     }
-    found
-}
 
-fn check_columns(g: Geometry, stripe: &[u8], room: &mut [u16], keep: bool) -> u16
-    requires { WellShaped g stripe.now × RoomFor g keep room.old }
-    ensures { CheckedInto g stripe.now keep result room.new }
-{
-    let mut found = 0;
-    let chunks = g.b / WIDTH;
-    for m in 0..chunks {
-        let i = WIDTH * m;
-        let at = place(i, keep);
-        let next = check_chunk(g, stripe, i, found, &mut room[at..at + WIDTH]);
-        found = verdict::joined(found, next);
+    // By whole strips, of which the last may take columns again: their verdicts are the same.
+    fn check_strips(self, room: &mut [u16], keep: bool) -> u16
+        requires { (strip ≤ self.g.b) × RoomFor self.g keep room.old }
+        ensures { CheckedInto self.entry.g self.entry.bytes.now keep result room.new }
+    {
+        let mut found = 0;
+        for done in (0..self.g.b).step_by(STRIP) {
+            let i = stretch::next_start(self.g.b, STRIP, done);
+            let at = place(i, keep);
+            found = verdict::joined(found, self.check_strip(i, &mut room[at..at + STRIP]));
+        }
+        found
     }
-    let i = WIDTH * chunks;
-    if i < g.b {
-        let w = g.b - i;
-        let at = place(i, keep);
-        found = verdict::joined(found, check_part(g, stripe, i, &mut room[at..at + w]));
-    }
-    found
-}
 
-// Stored plus recomputed, and what the differences say; the summary of the columns before is the guess.
-fn check_chunk(g: Geometry, stripe: &[u8], i: usize, guess: u16, room: &mut [u16]) -> u16
-    requires { Has g stripe.now i width × (length room.old ≡ width) }
-    ensures { WithSummary (tabulate (length room.old) (λ j. verdict g.n (column g stripe.now (i + j)))) result room.new }
-{
-    let s = sums::syndromes(g, stripe, i);
-    verdict::verdicts_of(g.n, &s, guess, room)
-}
-
-// The same of fewer columns. The functions of a whole chunk know its width, and these do not. A part without differences is told
-// by one test here too: a second caller of `verdicts_of` would set it apart from the loop over the chunks.
-fn check_part(g: Geometry, stripe: &[u8], i: usize, room: &mut [u16]) -> u16
-    requires { Has g stripe.now i (length room.old) }
-    ensures { WithSummary (tabulate (length room.old) (λ j. verdict g.n (column g stripe.now (i + j)))) result room.new }
-{
-    let s = sums::part_survivors(g, stripe, i, room.len(), g.n + 2, g.n + 2);
-    if chunk::are_zero(&s.p, &s.q) {
-        room.fill(0);
-        return 0;
+    fn check_strip(self, i: usize, room: &mut [u16]) -> u16
+        requires { (i + strip ≤ self.g.b) × (length room.old ≡ strip) }
+        ensures { WithSummary (tabulate (length room.old) (λ j. verdict self.entry.g.n (column self.entry.g self.entry.bytes.now (i + j)))) result room.new }
+    {
+        let g = self.g;
+        let mut p = [0u8; STRIP];
+        let mut q = [0u8; STRIP];
+        sums::strip_survivors(g, self.bytes, i, g.n + 2, g.n + 2, &mut p, &mut q);
+        let mut found = 0;
+        for m in 0..CHUNKS {
+            let c = WIDTH * m;
+            let s = Sums {
+                p: chunk::load(&p[c..c + WIDTH]),
+                q: chunk::load(&q[c..c + WIDTH]),
+            };
+            found = verdict::joined(
+                found,
+                verdict::verdicts_of(g.n, &s, found, &mut room[c..c + WIDTH]),
+            );
+        }
+        found
     }
-    verdict::verdicts_by_place(g.n, &s, 0, room)
+
+    fn check_columns(self, room: &mut [u16], keep: bool) -> u16
+        requires { RoomFor self.g keep room.old }
+        ensures { CheckedInto self.entry.g self.entry.bytes.now keep result room.new }
+    {
+        let mut found = 0;
+        let chunks = self.g.b / WIDTH;
+        for m in 0..chunks {
+            let i = WIDTH * m;
+            let at = place(i, keep);
+            let next = self.check_chunk(i, found, &mut room[at..at + WIDTH]);
+            found = verdict::joined(found, next);
+        }
+        let i = WIDTH * chunks;
+        if i < self.g.b {
+            let w = self.g.b - i;
+            let at = place(i, keep);
+            found = verdict::joined(found, self.check_part(i, &mut room[at..at + w]));
+        }
+        found
+    }
+
+    // Stored plus recomputed, and what the differences say; the summary of the columns before is the guess.
+    fn check_chunk(self, i: usize, guess: u16, room: &mut [u16]) -> u16
+        requires { (i + width ≤ self.g.b) × (length room.old ≡ width) }
+        ensures { WithSummary (tabulate (length room.old) (λ j. verdict self.entry.g.n (column self.entry.g self.entry.bytes.now (i + j)))) result room.new }
+    {
+        let s = sums::syndromes(self.g, self.bytes, i);
+        verdict::verdicts_of(self.g.n, &s, guess, room)
+    }
+
+    // The same of fewer columns. The functions of a whole chunk know its width, and these do not. A part without differences is told
+    // by one test here too: a second caller of `verdicts_of` would set it apart from the loop over the chunks.
+    fn check_part(self, i: usize, room: &mut [u16]) -> u16
+        requires { (i + length room.old ≤ self.g.b) × (length room.old ≤ width) }
+        ensures { WithSummary (tabulate (length room.old) (λ j. verdict self.entry.g.n (column self.entry.g self.entry.bytes.now (i + j)))) result room.new }
+    {
+        let g = self.g;
+        let s = sums::part_survivors(g, self.bytes, i, room.len(), g.n + 2, g.n + 2);
+        if chunk::are_zero(&s.p, &s.q) {
+            room.fill(0);
+            return 0;
+        }
+        verdict::verdicts_by_place(g.n, &s, 0, room)
+    }
 }
