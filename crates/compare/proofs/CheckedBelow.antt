@@ -19,7 +19,7 @@ use Rattle.shape.specs.Layout.{column}
 use Rattle.sums.specs.Strip.{strip}
 use Rattle.verdict.specs.Summary.{joined, summary, WithSummary}
 use Rattle.verdict.proofs.Summary.{summary_none, summary_again, summary_as}
-use Rattle.compare.specs.Compare.{RoomFor, CheckedInto}
+use Rattle.compare.specs.Compare.{verdicts_from, RoomFor, CheckedInto}
 
 -- found is the summary of the first i verdicts, and the room has them, if they are kept
 pub record CheckedBelow (g : Geometry) (s : List ℕ) (keep : Bool) (before room : List ℕ) (i found : ℕ) : Type 0 where
@@ -44,7 +44,7 @@ module _ {g : Geometry} {s : List ℕ} {keep : Bool} {before : List ℕ} where
   pub checked_more : {room m : List ℕ} {c found v r at : ℕ} (i w : ℕ) → CheckedBelow g s keep before room c found → i ≤ c → c ≤ i + w → i + w ≤ g.b
       → at ≡ choose keep i 0
       → at + w ≤ length room
-      → WithSummary (tabulate (length (take (at + w - at) (drop at room))) (λ j. verdict g.n (column g s (i + j)))) v m
+      → WithSummary (verdicts_from g s i (length (take (at + w - at) (drop at room)))) v m
       → r ≡ joined found v
       → CheckedBelow g s keep before (put_mid at (at + w - at) room m) (i + w) r
   checked_more {room} {m} {c} {v = v} {at = at} i w below begins reaches fits is holds told step =
@@ -62,14 +62,14 @@ module _ {g : Geometry} {s : List ℕ} {keep : Bool} {before : List ℕ} where
       f : ℕ → ℕ
       f j = verdict g.n (column g s j)
 
-      part : WithSummary (tabulate w (λ j. f (i + j))) v m
-      part = summary_as (ap (λ (k : ℕ). tabulate k (λ j. f (i + j))) (part_length room at (at + w) (omega arith) holds ∙ omega arith)) told
+      part : WithSummary (verdicts_from g s i w) v m
+      part = summary_as (ap (verdicts_from g s i) (part_length room at (at + w) (omega arith) holds ∙ omega arith)) told
 
   -- a strip more, which may begin among columns that were checked before
   pub checked_strip : {room m : List ℕ} {done i found v r at : ℕ} → RoomFor g keep before → strip ≤ g.b → done < g.b → i ≡ min done (g.b - strip)
       → CheckedBelow g s keep before room (min done g.b) found
       → at ≡ choose keep i 0
-      → WithSummary (tabulate (length (take (at + strip - at) (drop at room))) (λ j. verdict g.n (column g s (i + j)))) v m
+      → WithSummary (verdicts_from g s i (length (take (at + strip - at) (drop at room)))) v m
       → r ≡ joined found v
       → CheckedBelow g s keep before (put_mid at (at + strip - at) room m) (min (done + strip) g.b) r
   checked_strip {i = i} has wide left next below is told step =

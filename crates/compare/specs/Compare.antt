@@ -1,5 +1,5 @@
 -- What a check finds: the verdict on every column, and their summary.
-use Rattle.std.specs.Prelude.{ℕ, ◌≤◌, ◌≡◌, Bool, true, false, List, eqb, length}
+use Rattle.std.specs.Prelude.{ℕ, ◌+◌, ◌≤◌, ◌≡◌, Bool, true, false, List, eqb, length}
 use Rattle.base.specs.Choice.{choose}
 use Rattle.base.specs.Refusal.{unless_refused}
 use Rattle.base.specs.Table.{tabulate}
@@ -31,6 +31,10 @@ pub record CompareCall (g : Geometry) (s before : List ℕ) (r : ℕ) (after : L
   pub room : after ≡ after_check g s before
 
 -- ---- what private functions suppose and promise; no public contract rests on the rest
+-- the verdicts on k columns from column i on
+abbrev pub verdicts_from : Geometry → List ℕ → ℕ → ℕ → List ℕ
+verdicts_from g s i k = tabulate k (λ j. verdict g.n (column g s (i + j)))
+
 -- the room has a place for each verdict, if they are kept, and else for those of a stretch
 pub record RoomFor (g : Geometry) (keep : Bool) (room : List ℕ) : Type 0 where
   pub whole : keep ≡ true → length room ≡ g.b

@@ -4,15 +4,12 @@
 
 ghost use Rattle.std.specs.Prelude.{◌≡◌, ◌+◌, ◌≤◌, length};
 ghost use Rattle.base.specs.Choice.{choose};
-ghost use Rattle.base.specs.Table.{tabulate};
-ghost use Rattle.column.specs.Column.{verdict};
 ghost use Rattle.chunk.specs.Chunk.{width};
-ghost use Rattle.shape.specs.Layout.{column};
 ghost use Rattle.shape.specs.Number.{number};
 ghost use Rattle.shape.specs.Refusals.{WellShaped};
 ghost use Rattle.sums.specs.Strip.{strip};
 ghost use Rattle.verdict.specs.Summary.{WithSummary};
-ghost use Rattle.compare.specs.Compare.{summary_of, CompareCall, RoomFor, CheckedInto};
+ghost use Rattle.compare.specs.Compare.{summary_of, CompareCall, verdicts_from, RoomFor, CheckedInto};
 ghost use Rattle.compare.specs.Repair.{unclear, repair_refusal};
 
 use chunk::{Sums, WIDTH};
@@ -106,7 +103,7 @@ impl Stripe<'_> {
 
     fn check_strip(self, i: usize, room: &mut [u16]) -> u16
         requires { (i + strip ≤ self.g.b) × (length room.old ≡ strip) }
-        ensures { WithSummary (tabulate (length room.old) (λ j. verdict self.entry.g.n (column self.entry.g self.entry.bytes.now (i + j)))) result room.new }
+        ensures { WithSummary (verdicts_from self.entry.g self.entry.bytes.now i (length room.old)) result room.new }
     {
         let g = self.g;
         let mut p = [0u8; STRIP];
@@ -151,7 +148,7 @@ impl Stripe<'_> {
     // Stored plus recomputed, and what the differences say; the summary of the columns before is the guess.
     fn check_chunk(self, i: usize, guess: u16, room: &mut [u16]) -> u16
         requires { (i + width ≤ self.g.b) × (length room.old ≡ width) }
-        ensures { WithSummary (tabulate (length room.old) (λ j. verdict self.entry.g.n (column self.entry.g self.entry.bytes.now (i + j)))) result room.new }
+        ensures { WithSummary (verdicts_from self.entry.g self.entry.bytes.now i (length room.old)) result room.new }
     {
         let s = sums::syndromes(self.g, self.bytes, i);
         verdict::verdicts_of(self.g.n, &s, guess, room)
@@ -161,7 +158,7 @@ impl Stripe<'_> {
     // by one test here too: a second caller of `verdicts_of` would set it apart from the loop over the chunks.
     fn check_part(self, i: usize, room: &mut [u16]) -> u16
         requires { (i + length room.old ≤ self.g.b) × (length room.old ≤ width) }
-        ensures { WithSummary (tabulate (length room.old) (λ j. verdict self.entry.g.n (column self.entry.g self.entry.bytes.now (i + j)))) result room.new }
+        ensures { WithSummary (verdicts_from self.entry.g self.entry.bytes.now i (length room.old)) result room.new }
     {
         let g = self.g;
         let s = sums::part_survivors(g, self.bytes, i, room.len(), g.n + 2, g.n + 2);

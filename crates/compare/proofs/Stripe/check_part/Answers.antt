@@ -3,9 +3,8 @@ use mathlib.Core.Path.{◌≡◌, sym, ap, ap₂, ◌∙◌}
 use mathlib.Core.List.{List}
 use Prim.Native.Nat.{ℕ, ◌+◌, ◌≤◌}
 use lib.ListN.{length}
-use Rattle.base.specs.Table.{tabulate}
 use Rattle.base.proofs.Table.{tabulate_same}
-use Rattle.column.specs.Column.{Column, verdict, syndrome_p, syndrome_q, reed_solomon, verdict_of}
+use Rattle.column.specs.Column.{Column, syndrome_p, syndrome_q, reed_solomon, verdict_of}
 use Rattle.losses.specs.Losses.{without}
 use Rattle.losses.proofs.Without.{none_lost}
 use Rattle.shape.specs.declared.Geometry.{Geometry}
@@ -19,10 +18,11 @@ use Rattle.sums.specs.Sums.{sums_of}
 use Rattle.verdict.specs.Verdicts.{verdicts_of}
 use Rattle.verdict.proofs.Summary.{summary_as}
 use Rattle.verdict.proofs.Zeros.{zeros_told}
+use Rattle.compare.specs.Compare.{verdicts_from}
 use Rattle.compare.proofs.Stripe.check_part.Goals as goal
 
 same : {g : Geometry} {s : List ℕ} {r : Sums} (i k : ℕ) → WellShaped g s → (i + k ≤ g.b) × (k ≤ width) → r ≡ sums_of g.n (λ j. without (g.n + 2) (g.n + 2) (column_of g s i k j))
-    → verdicts_of g.n r.p r.q k ≡ tabulate k (λ j. verdict g.n (column g s (i + j)))
+    → verdicts_of g.n r.p r.q k ≡ verdicts_from g s i k
 same {g} {s} i k shaped fits sums =
     let n = g.n in
     let e : ℕ → Column = λ j. column g s (i + j) in

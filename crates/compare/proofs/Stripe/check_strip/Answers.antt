@@ -14,6 +14,7 @@ use Rattle.shape.specs.Layout.{column}
 use Rattle.sums.specs.Strip.{strip, HasStrip}
 use Rattle.sums.proofs.Strips.{chunk_seen}
 use Rattle.verdict.proofs.Summary.{FilledWithSummary, summary_filled_none, summary_filled_part, summary_filled_all, summary_as}
+use Rattle.compare.specs.Compare.{verdicts_from}
 use Rattle.compare.proofs.Stripe.check_strip.Goals as goal
 
 pub loop-m-init : goal.loop-m-init
@@ -43,4 +44,4 @@ pub returns : goal.returns
 returns c =
     let a = c.args in
     let s = a.self in
-    summary_as (ap (λ (w : ℕ). tabulate w (λ j. verdict s.g.n (column s.g s.bytes.now (a.i + j)))) (sym c.requires.1)) (summary_filled_all c.loop-m.invariant (omega arith))
+    summary_as (ap (verdicts_from s.g s.bytes.now a.i) (sym c.requires.1)) (summary_filled_all c.loop-m.invariant (omega arith))
