@@ -13,6 +13,7 @@ ghost use Rattle.compare.specs.Compare.{summary_of, CompareCall, verdicts_from, 
 ghost use Rattle.compare.specs.Repair.{unclear, repair_refusal};
 
 use chunk::{Sums, WIDTH};
+use losses::Pair;
 use shape::{Geometry, Refusal};
 use sums::{CHUNKS, STRIP};
 
@@ -106,9 +107,13 @@ impl Stripe<'_> {
         ensures { WithSummary (verdicts_from self.entry.g self.entry.bytes.now i (length room.old)) result room.new }
     {
         let g = self.g;
+        let none = Pair {
+            x: g.n + 2,
+            y: g.n + 2,
+        };
         let mut p = [0u8; STRIP];
         let mut q = [0u8; STRIP];
-        sums::strip_survivors(g, self.bytes, i, g.n + 2, g.n + 2, &mut p, &mut q);
+        sums::strip_survivors(g, self.bytes, i, none, &mut p, &mut q);
         let mut found = 0;
         for m in 0..CHUNKS {
             let c = WIDTH * m;
@@ -161,7 +166,11 @@ impl Stripe<'_> {
         ensures { WithSummary (verdicts_from self.entry.g self.entry.bytes.now i (length room.old)) result room.new }
     {
         let g = self.g;
-        let s = sums::part_survivors(g, self.bytes, i, room.len(), g.n + 2, g.n + 2);
+        let none = Pair {
+            x: g.n + 2,
+            y: g.n + 2,
+        };
+        let s = sums::part_survivors(g, self.bytes, i, room.len(), none);
         if chunk::are_zero(&s.p, &s.q) {
             room.fill(0);
             return 0;
