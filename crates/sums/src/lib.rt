@@ -181,19 +181,19 @@ struct Columns<'a> {
     ghost has: { Has g stripe.now i width },
 }
 
-impl<'a> Columns<'a> {
+impl Columns<'_> {
     // The bytes from a place of the buffer on.
-    fn load(&self, at: usize) -> [u8; WIDTH]
-        requires { at + width ≤ length self.now.stripe.now }
-        ensures { result ≡ each (λ j. get_or self.now.stripe.now (at + j) 0) }
+    fn load(self, at: usize) -> [u8; WIDTH]
+        requires { at + width ≤ length self.stripe.now }
+        ensures { result ≡ each (λ j. get_or self.entry.stripe.now (at + j) 0) }
     {
         chunk::load(&self.stripe[at..at + WIDTH])
     }
 
     // What `stretch` loads, without its tests: a pass would make them at each chunk, and took 2 to 4 % longer with them.
-    fn chunk(&self, role: usize) -> [u8; WIDTH]
-        requires { role < self.now.g.n + 2 }
-        ensures { result ≡ each (λ j. column_of self.now.g self.now.stripe.now self.now.i width j role) }
+    fn chunk(self, role: usize) -> [u8; WIDTH]
+        requires { role < self.g.n + 2 }
+        ensures { result ≡ each (λ j. column_of self.entry.g self.entry.stripe.now self.entry.i width j role) }
     {
         self.load(self.g.start(role) + self.i)
     }
@@ -201,8 +201,8 @@ impl<'a> Columns<'a> {
     // All disks. The highest meets sums of 00, so that its step is a copy. It is compiled into each caller, as one that is called
     // for each chunk.
     #[inline(always)]
-    fn data_sums(&self) -> Sums
-        ensures { Tails self.now.g.n 0 (column_of self.now.g self.now.stripe.now self.now.i width) result }
+    fn data_sums(self) -> Sums
+        ensures { Tails self.entry.g.n 0 (column_of self.entry.g self.entry.stripe.now self.entry.i width) result }
     {
         let mut sums = Sums::ZERO;
         let k = self.g.n - 1;
@@ -213,9 +213,9 @@ impl<'a> Columns<'a> {
     }
 
     // The disks below `to` down to the lost one, which counts as 00. The first that is done.
-    fn add_above(&self, lost: usize, to: usize, sums: &mut Sums) -> usize
-        requires { to ≤ self.now.g.n }
-        ensures { AddedAbove self.now.g self.now.i lost to self.now.stripe.now sums.old result sums.new }
+    fn add_above(self, lost: usize, to: usize, sums: &mut Sums) -> usize
+        requires { to ≤ self.g.n }
+        ensures { AddedAbove self.entry.g self.entry.i lost to self.entry.stripe.now sums.old result sums.new }
     {
         if to <= lost {
             return to;
@@ -226,9 +226,9 @@ impl<'a> Columns<'a> {
     }
 
     // The disks below `to` down to `from`.
-    fn add_disks(&self, from: usize, to: usize, sums: &mut Sums)
-        requires { (from ≤ to) × (to ≤ self.now.g.n) }
-        ensures { DisksAdded self.now.g self.now.i from to self.now.stripe.now sums.old sums.new }
+    fn add_disks(self, from: usize, to: usize, sums: &mut Sums)
+        requires { (from ≤ to) × (to ≤ self.g.n) }
+        ensures { DisksAdded self.entry.g self.entry.i from to self.entry.stripe.now sums.old sums.new }
     {
         let mut at = self.g.start(to) + self.i;
         for k in (from..to).rev() {
@@ -240,9 +240,9 @@ impl<'a> Columns<'a> {
 
     // All disks below `to`, two at a time, and the last alone where their number is odd. Where disks are lost there are up to
     // three runs of them, and the compiler leaves a step of two out of the loop over the chunks: those go one by one.
-    fn add_pairs(&self, to: usize, sums: &mut Sums)
-        requires { to ≤ self.now.g.n }
-        ensures { DisksAdded self.now.g self.now.i 0 to self.now.stripe.now sums.old sums.new }
+    fn add_pairs(self, to: usize, sums: &mut Sums)
+        requires { to ≤ self.g.n }
+        ensures { DisksAdded self.entry.g self.entry.i 0 to self.entry.stripe.now sums.old sums.new }
     {
         let mut at = self.g.start(to) + self.i;
         for m in 0..to / 2 {
@@ -257,9 +257,9 @@ impl<'a> Columns<'a> {
 
     // The disks below `to` down to `from` without the lost ones, and after the last disk the stored parities. Most groups have
     // neither and are one run.
-    fn add_group(&self, pair: Pair, from: usize, to: usize, sums: &mut Sums)
-        requires { (from ≤ to) × (to ≤ self.now.g.n) }
-        ensures { GroupAdded self.now.g self.now.i pair.x pair.y from to self.now.stripe.now sums.old sums.new }
+    fn add_group(self, pair: Pair, from: usize, to: usize, sums: &mut Sums)
+        requires { (from ≤ to) × (to ≤ self.g.n) }
+        ensures { GroupAdded self.entry.g self.entry.i pair.x pair.y from to self.entry.stripe.now sums.old sums.new }
     {
         if is_plain(pair, from, to) {
             self.add_disks(from, to, sums);
@@ -274,9 +274,9 @@ impl<'a> Columns<'a> {
     }
 
     // Those above a lost disk and the lost one as 00, if it is one of them. The first that is done.
-    fn add_within(&self, lost: usize, from: usize, to: usize, sums: &mut Sums) -> usize
-        requires { (from ≤ to) × (to ≤ self.now.g.n) }
-        ensures { AddedWithin self.now.g self.now.i lost from to self.now.stripe.now sums.old result sums.new }
+    fn add_within(self, lost: usize, from: usize, to: usize, sums: &mut Sums) -> usize
+        requires { (from ≤ to) × (to ≤ self.g.n) }
+        ensures { AddedWithin self.entry.g self.entry.i lost from to self.entry.stripe.now sums.old result sums.new }
     {
         if lost < from {
             return to;

@@ -9,5 +9,5 @@ returns c =
       below = omega arith;
       within = omega arith;
       above = λ k l h. omega arith;
-      sums = λ f agrees zero tails. tails_zero c.args.self.now.g.n f (omega arith) (c.add_disks.ensures f agrees tails) zero c.double.ensures;
+      sums = λ f agrees zero tails. tails_zero c.args.self.g.n f (omega arith) (c.add_disks.ensures f agrees tails) zero c.double.ensures;
     }

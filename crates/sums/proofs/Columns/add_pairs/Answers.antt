@@ -32,13 +32,13 @@ ends has k small two h is one other =
     (inside has (k - 1) (omega arith) at.0, inside has (k - 2) (omega arith) at.1)
 
 pub overflow_add-at : goal.overflow_add-at
-overflow_add-at c = omega (arith, inside c.args.self.now.has c.args.to (omega arith) (placed c.args.self.now.has c.args.to (omega arith) c.start.ensures))
+overflow_add-at c = omega (arith, inside c.args.self.has c.args.to (omega arith) (placed c.args.self.has c.args.to (omega arith) c.start.ensures))
 
 pub load-d-requires : goal.load-d-requires
-load-d-requires c = (ends c.args.self.now.has (c.args.to - 2 * c.loop-m.m) (omega arith) (omega arith) (omega arith) c.loop-m.invariant.0 c.role_before-above.ensures c.role_before-at.ensures).0
+load-d-requires c = (ends c.args.self.has (c.args.to - 2 * c.loop-m.m) (omega arith) (omega arith) (omega arith) c.loop-m.invariant.0 c.role_before-above.ensures c.role_before-at.ensures).0
 
 pub load-e-requires : goal.load-e-requires
-load-e-requires c = (ends c.args.self.now.has (c.args.to - 2 * c.loop-m.m) (omega arith) (omega arith) (omega arith) c.loop-m.invariant.0 c.role_before-above.ensures c.role_before-at.ensures).1
+load-e-requires c = (ends c.args.self.has (c.args.to - 2 * c.loop-m.m) (omega arith) (omega arith) (omega arith) c.loop-m.invariant.0 c.role_before-above.ensures c.role_before-at.ensures).1
 
 pub loop-m-preserved : goal.loop-m-preserved
 loop-m-preserved c =
@@ -46,11 +46,11 @@ loop-m-preserved c =
     let l = c.loop-m in
     let d = c.load-d in
     let e = c.load-e in
-    let at = places c.args.self.now.has (c.args.to - 2 * c.loop-m.m) (omega arith) (omega arith) (omega arith) c.loop-m.invariant.0 c.role_before-above.ensures c.role_before-at.ensures in
-    let lower : c.role_before-at.result ≡ start a.self.now.g (a.to - 2 * (l.m + 1)) + a.self.now.i = at.1 ∙ ap (λ (k : ℕ). start a.self.now.g k + a.self.now.i) (omega arith) in
-    let first = disk_added a.self.now.g a.self.now.stripe.now a.self.now.i d.result (omega arith) (omega arith) (omega arith) l.invariant.1 at.0 d.ensures (bytes d.result d.type_inv.0 d.type_inv.1.1) refl refl in (
+    let at = places c.args.self.has (c.args.to - 2 * c.loop-m.m) (omega arith) (omega arith) (omega arith) c.loop-m.invariant.0 c.role_before-above.ensures c.role_before-at.ensures in
+    let lower : c.role_before-at.result ≡ start a.self.g (a.to - 2 * (l.m + 1)) + a.self.i = at.1 ∙ ap (λ (k : ℕ). start a.self.g k + a.self.i) (omega arith) in
+    let first = disk_added a.self.g a.self.stripe.now a.self.i d.result (omega arith) (omega arith) (omega arith) l.invariant.1 at.0 d.ensures (bytes d.result d.type_inv.0 d.type_inv.1.1) refl refl in (
       lower,
-      disk_added a.self.now.g a.self.now.stripe.now a.self.now.i e.result (omega arith) (omega arith) (omega arith) first lower e.ensures
+      disk_added a.self.g a.self.stripe.now a.self.i e.result (omega arith) (omega arith) (omega arith) first lower e.ensures
           (bytes e.result e.type_inv.0 e.type_inv.1.1)
           c.add_two_disks.ensures.0
           c.add_two_disks.ensures.1,
@@ -60,4 +60,4 @@ pub returns : goal.returns
 returns c =
     let l = c.loop-m in
     let same : c.args.to - 2 * l.m ≡ c.args.to % 2 = omega arith in
-    λ f agrees tails. c.add_disks.ensures f (λ j k p low high. agrees j k p low (omega arith)) (subst (λ (k : ℕ). Tails c.args.self.now.g.n k f l.sums) same (l.invariant.1 f (λ j k p low high. agrees j k p (omega arith) high) tails))
+    λ f agrees tails. c.add_disks.ensures f (λ j k p low high. agrees j k p low (omega arith)) (subst (λ (k : ℕ). Tails c.args.self.g.n k f l.sums) same (l.invariant.1 f (λ j k p low high. agrees j k p (omega arith) high) tails))

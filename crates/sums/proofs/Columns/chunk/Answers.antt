@@ -11,17 +11,17 @@ use Rattle.stretch.proofs.Laws.{ends, column_of_lem}
 use Rattle.sums.proofs.Columns.chunk.Goals as goal
 
 pub overflow_add-start : goal.overflow_add-start
-overflow_add-start c = omega (arith, ends c.args.self.now.has c.requires c.start.ensures)
+overflow_add-start c = omega (arith, ends c.args.self.has c.requires c.start.ensures)
 
 pub load-requires : goal.load-requires
-load-requires c = ends c.args.self.now.has c.requires c.start.ensures
+load-requires c = ends c.args.self.has c.requires c.start.ensures
 
 pub returns : goal.returns
 returns c =
-    let h = c.args.self.now.has in
+    let h = c.args.self.has in
     let role = c.args.role in
     c.load.ensures
     ∙ tabulate_same width
     (λ j l.
-    ap (λ (a : ℕ). get_or c.args.self.now.stripe.now a 0) (omega (arith, block_start c.args.self.now.g c.args.self.now.stripe.now role h.shaped c.requires c.start.ensures))
+    ap (λ (a : ℕ). get_or c.args.self.stripe.now a 0) (omega (arith, block_start c.args.self.g c.args.self.stripe.now role h.shaped c.requires c.start.ensures))
     ∙ sym (ap (λ (e : Column). e role) (column_of_lem h j l)))

@@ -7,4 +7,4 @@ pub returns : goal.returns
 returns c =
     let d = c.chunk-d in
     let first = c.add_disk.ensures in
-    all_added d.result c.args.self.now.has d.ensures (bytes d.result d.type_inv.0 d.type_inv.1.1) first.0 first.1 c.add_pairs.ensures
+    all_added d.result c.args.self.has d.ensures (bytes d.result d.type_inv.0 d.type_inv.1.1) first.0 first.1 c.add_pairs.ensures

@@ -8,4 +8,4 @@ use Rattle.chunk.specs.Chunk.{width}
 use Rattle.sums.proofs.Columns.load.Goals as goal
 
 pub returns : goal.returns
-returns c = let at = c.args.at in c.load.ensures ∙ tabulate_same width (λ j l. part_place c.args.self.now.stripe.now at (at + width) j (omega arith))
+returns c = let at = c.args.at in c.load.ensures ∙ tabulate_same width (λ j l. part_place c.args.self.stripe.now at (at + width) j (omega arith))
