@@ -16,6 +16,7 @@ ghost use Rattle.sums.specs.Passes.{page, in_passes, parities_set, Passed};
 use chunk::{Sums, WIDTH};
 use losses::Pair;
 use shape::Geometry;
+use stretch::Stretch;
 
 // The chunks of a strip, and its columns.
 pub const CHUNKS: usize = 8;
@@ -44,7 +45,8 @@ const PASS: usize = 5;
 pub fn parities(g: Geometry, stripe: &[u8], i: usize) -> Sums
     ensures { result ≡ parities_of g.n (column_of g stripe.now i width) }
 {
-    if !stretch::has_columns(g, stripe.len(), i, WIDTH) {
+    let at = Stretch { g, i, w: WIDTH };
+    if !at.is_in(stripe.len()) {
         return Sums::ZERO;
     }
     Columns { g, stripe, i }.data_sums()
@@ -54,13 +56,14 @@ pub fn parities(g: Geometry, stripe: &[u8], i: usize) -> Sums
 pub fn syndromes(g: Geometry, stripe: &[u8], i: usize) -> Sums
     ensures { result ≡ sums_of g.n (column_of g stripe.now i width) }
 {
-    if !stretch::has_columns(g, stripe.len(), i, WIDTH) {
+    let at = Stretch { g, i, w: WIDTH };
+    if !at.is_in(stripe.len()) {
         return Sums::ZERO;
     }
     let mut sums = Columns { g, stripe, i }.data_sums();
-    let d = stretch::load(g, stripe, g.n, i, WIDTH);
+    let d = at.load(stripe, g.n);
     chunk::add(&mut sums.p, &d);
-    let d = stretch::load(g, stripe, g.n + 1, i, WIDTH);
+    let d = at.load(stripe, g.n + 1);
     chunk::add(&mut sums.q, &d);
     sums
 }
@@ -71,30 +74,31 @@ pub fn survivors(g: Geometry, stripe: &[u8], i: usize, pair: Pair) -> Sums
     ensures { result ≡ sums_of g.n (λ j. without pair.x pair.y (column_of g stripe.now i width j)) }
 {
     let mut sums = Sums::ZERO;
-    if !stretch::has_columns(g, stripe.len(), i, WIDTH) {
+    let at = Stretch { g, i, w: WIDTH };
+    if !at.is_in(stripe.len()) {
         return sums;
     }
     let columns = Columns { g, stripe, i };
     let k = columns.add_above(pair.x.max(pair.y), g.n, &mut sums);
     let k = columns.add_above(pair.x.min(pair.y), k, &mut sums);
     columns.add_disks(0, k, &mut sums);
-    add_stored(g, stripe, i, WIDTH, pair, &mut sums);
+    add_stored(at, stripe, pair, &mut sums);
     sums
 }
 
-// The same of w columns. `survivors` is not this at a chunk's width: it tests no disk for being lost.
-pub fn part_survivors(g: Geometry, stripe: &[u8], i: usize, w: usize, pair: Pair) -> Sums
-    ensures { result ≡ sums_of g.n (λ j. without pair.x pair.y (column_of g stripe.now i w j)) }
+// The same of any stretch. `survivors` is not this at a chunk's width: it tests no disk for being lost.
+pub fn part_survivors(at: Stretch, stripe: &[u8], pair: Pair) -> Sums
+    ensures { result ≡ sums_of at.g.n (λ j. without pair.x pair.y (column_of at.g stripe.now at.i at.w j)) }
 {
     let mut sums = Sums::ZERO;
-    if !stretch::has_columns(g, stripe.len(), i, w) {
+    if !at.is_in(stripe.len()) {
         return sums;
     }
-    for k in (0..g.n).rev() {
-        let d = load_but(g, stripe, k, i, w, pair);
+    for k in (0..at.g.n).rev() {
+        let d = load_but(at, stripe, k, pair);
         sums.add_disk(&d);
     }
-    add_stored(g, stripe, i, w, pair, &mut sums);
+    add_stored(at, stripe, pair, &mut sums);
     sums
 }
 
@@ -155,17 +159,17 @@ pub fn set_parities(g: Geometry, stripe: &mut [u8])
     }
 }
 
-// The sum of the data and P of each of w columns without role x. Q is neither read nor summed.
-pub fn sum_without(g: Geometry, stripe: &[u8], i: usize, w: usize, x: usize) -> [u8; WIDTH]
-    ensures { result ≡ each (λ j. by_p g.n x (column_of g stripe.now i w j)) }
+// The sum of the data and P of each column without role x. Q is neither read nor summed.
+pub fn sum_without(at: Stretch, stripe: &[u8], x: usize) -> [u8; WIDTH]
+    ensures { result ≡ each (λ j. by_p at.g.n x (column_of at.g stripe.now at.i at.w j)) }
 {
     let mut p = [0u8; WIDTH];
-    if !stretch::has_columns(g, stripe.len(), i, w) {
+    if !at.is_in(stripe.len()) {
         return p;
     }
-    for k in 0..g.n + 1 {
+    for k in 0..at.g.n + 1 {
         if k != x {
-            let d = stretch::load(g, stripe, k, i, w);
+            let d = at.load(stripe, k);
             chunk::add(&mut p, &d);
         }
     }
@@ -269,7 +273,12 @@ impl Columns<'_> {
         let k = self.add_within(pair.x.min(pair.y), from, k, sums);
         self.add_disks(from, k, sums);
         if from == 0 {
-            add_stored(self.g, self.stripe, self.i, WIDTH, pair, sums);
+            let at = Stretch {
+                g: self.g,
+                i: self.i,
+                w: WIDTH,
+            };
+            add_stored(at, self.stripe, pair, sums);
         }
     }
 
@@ -336,27 +345,27 @@ fn is_outside(role: usize, from: usize, to: usize) -> bool
     role < from || to <= role
 }
 
-// The stored parities of w columns but for a lost one, each added to its sum. It is written into its calls, so that the compiler
+// The stored parities of a stretch but for a lost one, each added to its sum. It is written into its calls, so that the compiler
 // knows the width of a whole chunk.
 #[inline(always)]
-fn add_stored(g: Geometry, stripe: &[u8], i: usize, w: usize, pair: Pair, sums: &mut Sums)
-    requires { Has g stripe.now i w }
-    ensures { StoredAdded g.n (λ j. without pair.x pair.y (column_of g stripe.now i w j)) sums.old sums.new }
+fn add_stored(at: Stretch, stripe: &[u8], pair: Pair, sums: &mut Sums)
+    requires { Has at.g stripe.now at.i at.w }
+    ensures { StoredAdded at.g.n (λ j. without pair.x pair.y (column_of at.g stripe.now at.i at.w j)) sums.old sums.new }
 {
-    let d = load_but(g, stripe, g.n, i, w, pair);
+    let d = load_but(at, stripe, at.g.n, pair);
     chunk::add(&mut sums.p, &d);
-    let d = load_but(g, stripe, g.n + 1, i, w, pair);
+    let d = load_but(at, stripe, at.g.n + 1, pair);
     chunk::add(&mut sums.q, &d);
 }
 
 // 00 where the role is lost.
-fn load_but(g: Geometry, stripe: &[u8], role: usize, i: usize, w: usize, pair: Pair) -> [u8; WIDTH]
-    ensures { result ≡ each (λ j. without pair.x pair.y (column_of g stripe.now i w j) role) }
+fn load_but(at: Stretch, stripe: &[u8], role: usize, pair: Pair) -> [u8; WIDTH]
+    ensures { result ≡ each (λ j. without pair.x pair.y (column_of at.g stripe.now at.i at.w j) role) }
 {
     if pair.has(role) {
         return [0u8; WIDTH];
     }
-    stretch::load(g, stripe, role, i, w)
+    at.load(stripe, role)
 }
 
 // The parities of a page of columns. The disks of a pass lie below those of the one before, and the last has what is left, so

@@ -10,4 +10,4 @@ use Rattle.sums.proofs.load_but.Goals as goal
 pub returns-then-has : goal.returns-then-has
 returns-then-has c =
     let a = c.args in
-    zeros ∙ tabulate_same width (λ j p. sym (lost_zero a.pair.x a.pair.y (column_of a.g a.stripe.now a.i a.w j) a.role (sym c.has.ensures ∙ c.if-has.true)))
+    zeros ∙ tabulate_same width (λ j p. sym (lost_zero a.pair.x a.pair.y (column_of a.at.g a.stripe.now a.at.i a.at.w j) a.role (sym c.has.ensures ∙ c.if-has.true)))

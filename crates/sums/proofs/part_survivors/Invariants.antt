@@ -5,4 +5,4 @@ use Rattle.sums.specs.Sums.{Tails}
 use Rattle.sums.proofs.part_survivors.Given as goal
 
 abbrev pub invariant-loop-k : goal.invariant-loop-k
-invariant-loop-k l = Tails l.g.n l.k (λ j. without l.pair.x l.pair.y (column_of l.g l.stripe l.i l.w j)) l.sums
+invariant-loop-k l = Tails l.at.g.n l.k (λ j. without l.pair.x l.pair.y (column_of l.at.g l.stripe l.at.i l.at.w j)) l.sums

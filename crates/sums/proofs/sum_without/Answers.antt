@@ -35,8 +35,8 @@ module _ (x k : ℕ) (f : ℕ → Column) {p : List ℕ} (is : p ≡ each (λ j.
       ∙ tabulate_same width
       (λ j h. sym (ap (sum (total k (put x 0 (f j)))) (ap (put x 0 (f j)) same ∙ put_same x 0 (f j)) ∙ sum_zero _) ∙ sym (rw (add-one k)))
 
-pub returns-then-not-has_columns : goal.returns-then-not-has_columns
-returns-then-not-has_columns c = let a = c.args in no_sum a.g a.stripe.now a.i a.w (sym c.has_columns.ensures ∙ c.if-not-has_columns.true) a.g.n a.x
+pub returns-then-not-is_in : goal.returns-then-not-is_in
+returns-then-not-is_in c = let a = c.args in no_sum a.at.g a.stripe.now a.at.i a.at.w (sym c.is_in.ensures ∙ c.if-not-is_in.true) a.at.g.n a.x
 
 pub loop-k-init : goal.loop-k-init
 unfolding total
@@ -46,5 +46,5 @@ pub loop-k-preserved : goal.loop-k-preserved
 loop-k-preserved c =
     let a = c.args in
     let l = c.loop-k in
-    let e = column_of a.g a.stripe.now a.i a.w in
+    let e = column_of a.at.g a.stripe.now a.at.i a.at.w in
     grind (arith, added a.x l.k e l.invariant, left_out a.x l.k e l.invariant)

@@ -6,4 +6,4 @@ use Rattle.stretch.specs.Stretch.{column_of}
 use Rattle.sums.proofs.sum_without.Given as goal
 
 abbrev pub invariant-loop-k : goal.invariant-loop-k
-invariant-loop-k l = l.p ≡ each (λ j. total l.k (put l.x 0 (column_of l.g l.stripe l.i l.w j)))
+invariant-loop-k l = l.p ≡ each (λ j. total l.k (put l.x 0 (column_of l.at.g l.stripe l.at.i l.at.w j)))

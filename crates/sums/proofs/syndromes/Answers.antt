@@ -6,8 +6,8 @@ use Rattle.sums.proofs.Horner.{tails_stored}
 use Rattle.sums.proofs.Zeros.{no_syndromes}
 use Rattle.sums.proofs.syndromes.Goals as goal
 
-pub returns-then-not-has_columns : goal.returns-then-not-has_columns
-returns-then-not-has_columns c = let a = c.args in no_syndromes a.g a.stripe.now a.i width (sym c.has_columns.ensures ∙ c.if-not-has_columns.true) a.g.n
+pub returns-then-not-is_in : goal.returns-then-not-is_in
+returns-then-not-is_in c = let a = c.args in no_syndromes a.g a.stripe.now a.i width (sym c.is_in.ensures ∙ c.if-not-is_in.true) a.g.n
 
 pub returns : goal.returns
 returns c =
