@@ -20,6 +20,7 @@ use chunk::{Sums, WIDTH};
 use gf256::Element;
 use losses::{Pair, Plan, Rule};
 use shape::Geometry;
+use stretch::Stretch;
 use sums::{CHUNKS, STRIP};
 
 // Restores a stripe. What is no stripe, or has not the roles of the plan, stays as it is.
@@ -115,17 +116,18 @@ fn restore_part(g: Geometry, stripe: &mut [u8], plan: Plan)
     requires { Has g stripe.old 0 g.b × KnownPlan g.n plan }
     ensures { stripe.new ≡ lift g (λ i c. restored_by g.n plan c) stripe.old }
 {
+    let at = Stretch { g, i: 0, w: g.b };
     match plan {
-        Plan::ByP(x) => restore_by_p(g, stripe, 0, g.b, x),
+        Plan::ByP(x) => restore_by_p(at, stripe, x),
         Plan::FromData(both) => {
             let pair = Pair { x: g.n, y: g.n + 1 };
-            let sums = sums::part_survivors(g, stripe, 0, g.b, pair);
-            set_from_data(g, stripe, 0, g.b, both, sums);
+            let sums = sums::part_survivors(at, stripe, pair);
+            set_from_data(at, stripe, both, sums);
         }
         Plan::ByBoth(x, y, rule) => {
             let pair = Pair { x, y };
-            let sums = sums::part_survivors(g, stripe, 0, g.b, pair);
-            set_solved(g, stripe, 0, g.b, pair, rule, sums);
+            let sums = sums::part_survivors(at, stripe, pair);
+            set_solved(at, stripe, pair, rule, sums);
         }
     }
 }
@@ -170,7 +172,8 @@ impl Step for ByP {
     ghost plan = { λ it. Plan.ByP it.x };
 
     fn restore(self, g: Geometry, stripe: &mut [u8], i: usize) {
-        restore_by_p(g, stripe, i, WIDTH, self.x);
+        let at = Stretch { g, i, w: WIDTH };
+        restore_by_p(at, stripe, self.x);
     }
 
     ghost some = { Prim.search rules };
@@ -190,7 +193,8 @@ impl Step for FromData {
 
     fn restore(self, g: Geometry, stripe: &mut [u8], i: usize) {
         let sums = sums::parities(g, stripe, i);
-        set_from_data(g, stripe, i, WIDTH, self.both, sums);
+        let at = Stretch { g, i, w: WIDTH };
+        set_from_data(at, stripe, self.both, sums);
     }
 
     ghost some = { Prim.search rules };
@@ -211,9 +215,10 @@ impl Step for ByBoth {
 
     fn restore(self, g: Geometry, stripe: &mut [u8], i: usize) {
         let sums = sums::survivors(g, stripe, i, self.pair);
+        let at = Stretch { g, i, w: WIDTH };
         match self.rule {
-            Rule::Mixed(a, b) => set_mixed(g, stripe, i, self.pair, a, b, sums),
-            Rule::Carried(c) => set_carried(g, stripe, i, self.pair, c, sums),
+            Rule::Mixed(a, b) => set_mixed(at, stripe, self.pair, a, b, sums),
+            Rule::Carried(c) => set_carried(at, stripe, self.pair, c, sums),
         }
     }
 
@@ -244,90 +249,79 @@ impl Step for StripByBoth {
                 p: chunk::load(&p[c..c + WIDTH]),
                 q: chunk::load(&q[c..c + WIDTH]),
             };
-            set_solved(g, stripe, i + c, WIDTH, self.pair, self.rule, sums);
+            let at = Stretch {
+                g,
+                i: i + c,
+                w: WIDTH,
+            };
+            set_solved(at, stripe, self.pair, self.rule, sums);
         }
     }
 
     ghost some = { Prim.search rules };
 }
 
-// The bytes of one role in w columns, by equation 1 alone. It is written into its calls, so that the compiler knows the width of
+// The bytes of one role in a stretch, by equation 1 alone. It is written into its calls, so that the compiler knows the width of
 // a whole chunk.
 #[inline(always)]
-fn restore_by_p(g: Geometry, stripe: &mut [u8], i: usize, w: usize, x: usize)
-    requires { Has g stripe.old i w × (x < g.n + 2) }
-    ensures { ColumnsMapped g i w (λ j c. restored_by g.n (Plan.ByP x) c) stripe.old stripe.new }
+fn restore_by_p(at: Stretch, stripe: &mut [u8], x: usize)
+    requires { Has at.g stripe.old at.i at.w × (x < at.g.n + 2) }
+    ensures { ColumnsMapped at.g at.i at.w (λ j c. restored_by at.g.n (Plan.ByP x) c) stripe.old stripe.new }
 {
-    let p = sums::sum_without(g, stripe, i, w, x);
-    stretch::set(g, stripe, x, i, w, p);
+    let p = sums::sum_without(at, stripe, x);
+    at.set(stripe, x, p);
 }
 
-// Q of w columns and, where true, P, as the data give them. Written into its calls for the same reason.
+// Q of a stretch and, where true, P, as the data give them. Written into its calls for the same reason.
 #[inline(always)]
-fn set_from_data(g: Geometry, stripe: &mut [u8], i: usize, w: usize, both: bool, sums: Sums)
-    requires { Has g stripe.old i w × (sums ≡ parities_of g.n (column_of g stripe.old i w)) }
-    ensures { ColumnsMapped g i w (λ j c. restored_by g.n (Plan.FromData both) c) stripe.old stripe.new }
+fn set_from_data(at: Stretch, stripe: &mut [u8], both: bool, sums: Sums)
+    requires { Has at.g stripe.old at.i at.w × (sums ≡ parities_of at.g.n (column_of at.g stripe.old at.i at.w)) }
+    ensures { ColumnsMapped at.g at.i at.w (λ j c. restored_by at.g.n (Plan.FromData both) c) stripe.old stripe.new }
 {
     let p = sums.p;
     let q = sums.q;
-    stretch::set(g, stripe, g.n + 1, i, w, q);
+    at.set(stripe, at.g.n + 1, q);
     if both {
-        stretch::set(g, stripe, g.n, i, w, p);
+        at.set(stripe, at.g.n, p);
     }
 }
 
-// The bytes of both roles in w columns of a part or a strip, solved from P* and Q* without them. Written into its calls for the
+// The bytes of both roles in a part or in a chunk of a strip, solved from P* and Q* without them. Written into its calls for the
 // same reason.
 #[inline(always)]
-fn set_solved(
-    g: Geometry,
-    stripe: &mut [u8],
-    i: usize,
-    w: usize,
-    pair: Pair,
-    rule: Rule,
-    sums: Sums,
-)
-    requires { Has g stripe.old i w × (pair.x < g.n + 2) × (pair.y < g.n + 2) × Survivors g stripe.old i w pair sums }
-    ensures { ColumnsMapped g i w (λ j c. solved g.n pair.x pair.y rule c) stripe.old stripe.new }
+fn set_solved(at: Stretch, stripe: &mut [u8], pair: Pair, rule: Rule, sums: Sums)
+    requires { Has at.g stripe.old at.i at.w × (pair.x < at.g.n + 2) × (pair.y < at.g.n + 2) × Survivors at.g stripe.old at.i at.w pair sums }
+    ensures { ColumnsMapped at.g at.i at.w (λ j c. solved at.g.n pair.x pair.y rule c) stripe.old stripe.new }
 {
     let new = losses::solve(rule, sums);
     let on_x = new.first;
     let on_y = new.second;
-    stretch::set(g, stripe, pair.y, i, w, on_y);
-    stretch::set(g, stripe, pair.x, i, w, on_x);
+    at.set(stripe, pair.y, on_y);
+    at.set(stripe, pair.x, on_x);
 }
 
 // The first is a p + b q, the second what is left of p. `set_solved` is not called here: this is faster for a chunk
 // (docs/DECISIONS.md).
-fn set_mixed(
-    g: Geometry,
-    stripe: &mut [u8],
-    i: usize,
-    pair: Pair,
-    a: Element,
-    b: Element,
-    sums: Sums,
-)
-    requires { Has g stripe.old i width × (pair.x < g.n + 2) × (pair.y < g.n + 2) × (sums ≡ sums_of g.n (λ j. without pair.x pair.y (column_of g stripe.old i width j))) }
-    ensures { ColumnsMapped g i width (λ j c. solved g.n pair.x pair.y (Rule.Mixed a b) c) stripe.old stripe.new }
+fn set_mixed(at: Stretch, stripe: &mut [u8], pair: Pair, a: Element, b: Element, sums: Sums)
+    requires { Has at.g stripe.old at.i at.w × (pair.x < at.g.n + 2) × (pair.y < at.g.n + 2) × (sums ≡ sums_of at.g.n (λ j. without pair.x pair.y (column_of at.g stripe.old at.i at.w j))) }
+    ensures { ColumnsMapped at.g at.i at.w (λ j c. solved at.g.n pair.x pair.y (Rule.Mixed a b) c) stripe.old stripe.new }
 {
     let mut p = sums.p;
     let q = sums.q;
     let first = products::combine(a, p, b, q);
     chunk::add(&mut p, &first);
-    stretch::set(g, stripe, pair.y, i, WIDTH, p);
-    stretch::set(g, stripe, pair.x, i, WIDTH, first);
+    at.set(stripe, pair.y, p);
+    at.set(stripe, pair.x, first);
 }
 
 // The first is p, the second q + c p. Apart from `set_solved` for the same reason.
-fn set_carried(g: Geometry, stripe: &mut [u8], i: usize, pair: Pair, c: Element, sums: Sums)
-    requires { Has g stripe.old i width × (pair.x < g.n + 2) × (pair.y < g.n + 2) × (sums ≡ sums_of g.n (λ j. without pair.x pair.y (column_of g stripe.old i width j))) }
-    ensures { ColumnsMapped g i width (λ j c'. solved g.n pair.x pair.y (Rule.Carried c) c') stripe.old stripe.new }
+fn set_carried(at: Stretch, stripe: &mut [u8], pair: Pair, c: Element, sums: Sums)
+    requires { Has at.g stripe.old at.i at.w × (pair.x < at.g.n + 2) × (pair.y < at.g.n + 2) × (sums ≡ sums_of at.g.n (λ j. without pair.x pair.y (column_of at.g stripe.old at.i at.w j))) }
+    ensures { ColumnsMapped at.g at.i at.w (λ j c'. solved at.g.n pair.x pair.y (Rule.Carried c) c') stripe.old stripe.new }
 {
     let p = sums.p;
     let mut q = sums.q;
     products::add_product(&mut q, c, p);
-    stretch::set(g, stripe, pair.y, i, WIDTH, q);
-    stretch::set(g, stripe, pair.x, i, WIDTH, p);
+    at.set(stripe, pair.y, q);
+    at.set(stripe, pair.x, p);
 }

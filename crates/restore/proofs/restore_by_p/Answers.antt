@@ -12,4 +12,4 @@ pub returns : goal.returns
 returns c =
     let a = c.args in
     let h = c.requires.0 in
-    columns_as (set_columns h c.requires.1 c.sum_without-p.result c.set.ensures) (λ j l. ap (λ (v : ℕ). put a.x v (column a.g a.stripe.now (a.i + j))) (seen h (by_p a.g.n a.x) c.sum_without-p.ensures j l))
+    columns_as (set_columns h c.requires.1 c.sum_without-p.result c.set.ensures) (λ j l. ap (λ (v : ℕ). put a.x v (column a.at.g a.stripe.now (a.at.i + j))) (seen h (by_p a.at.g.n a.x) c.sum_without-p.ensures j l))

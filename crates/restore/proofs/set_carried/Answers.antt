@@ -3,6 +3,7 @@ use mathlib.Core.Path.{ap, ◌∙◌}
 use mathlib.Core.List.{List}
 use Prim.Native.Nat.{ℕ, ◌+◌}
 use lib.ListN.{get_or}
+use native.Mathlib.Omega.{arith}
 use Rattle.chunk.proofs.Laws.{each_at}
 use Rattle.losses.proofs.Without.{solved_carried}
 use Rattle.shape.specs.Layout.{column}
@@ -18,5 +19,5 @@ returns c =
     let sums = survivors_seen h c.requires.3 in
     columns_as (set_two h a.sums.p c.add_product.new.a c.requires.1 c.requires.2 c.set.ensures c.set-2.ensures)
     (λ j l.
-    solved_carried a.g.n a.pair.x a.pair.y (column a.g a.stripe.now (a.i + j)) (sums.first j l) (sums.second j l) a.c.0
-    (ap (λ (l : List ℕ). get_or l j 0) c.add_product.ensures ∙ each_at _ j l))
+    solved_carried a.at.g.n a.pair.x a.pair.y (column a.at.g a.stripe.now (a.at.i + j)) (sums.first j l) (sums.second j l) a.c.0
+    (ap (λ (l : List ℕ). get_or l j 0) c.add_product.ensures ∙ each_at _ j (omega (arith, h.held))))

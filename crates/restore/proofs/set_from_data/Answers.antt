@@ -12,16 +12,16 @@ use Rattle.restore.proofs.set_from_data.Goals as goal
 pub returns-then-both : goal.returns-then-both
 returns-then-both c =
     let a = c.args in
-    let n = a.g.n in
+    let n = a.at.g.n in
     let h = c.requires.0 in
     rw c.if-both.true
     (columns_as (set_two h a.sums.p a.sums.q (omega arith) (omega arith) c.set.ensures c.set-then-both.ensures)
-    (λ j l. ap₂ (λ (v w : ℕ). put n v (put (n + 1) w (column a.g a.stripe.now (a.i + j)))) (seen h (parity_p n) (ap (λ (r : Sums). r.p) c.requires.1) j l) (seen h (parity_q reed_solomon n) (ap (λ (r : Sums). r.q) c.requires.1) j l)))
+    (λ j l. ap₂ (λ (v w : ℕ). put n v (put (n + 1) w (column a.at.g a.stripe.now (a.at.i + j)))) (seen h (parity_p n) (ap (λ (r : Sums). r.p) c.requires.1) j l) (seen h (parity_q reed_solomon n) (ap (λ (r : Sums). r.q) c.requires.1) j l)))
 
 pub returns-else-both : goal.returns-else-both
 returns-else-both c =
     let a = c.args in
-    let n = a.g.n in
+    let n = a.at.g.n in
     let h = c.requires.0 in
     rw c.if-both.false
-    (columns_as (set_columns h (omega arith) a.sums.q c.set.ensures) (λ j l. ap (λ (w : ℕ). put (n + 1) w (column a.g a.stripe.now (a.i + j))) (seen h (parity_q reed_solomon n) (ap (λ (r : Sums). r.q) c.requires.1) j l)))
+    (columns_as (set_columns h (omega arith) a.sums.q c.set.ensures) (λ j l. ap (λ (w : ℕ). put (n + 1) w (column a.at.g a.stripe.now (a.at.i + j))) (seen h (parity_q reed_solomon n) (ap (λ (r : Sums). r.q) c.requires.1) j l)))

@@ -3,6 +3,7 @@ use mathlib.Core.Path.{ap, ◌∙◌}
 use mathlib.Core.List.{List}
 use Prim.Native.Nat.{ℕ, ◌+◌}
 use lib.ListN.{get_or}
+use native.Mathlib.Omega.{arith}
 use Rattle.chunk.proofs.Laws.{each_at}
 use Rattle.losses.proofs.Without.{solved_mixed}
 use Rattle.shape.specs.Layout.{column}
@@ -18,6 +19,6 @@ returns c =
     let sums = survivors_seen h c.requires.3 in
     columns_as (set_two h c.combine-first.result c.add.new.a c.requires.1 c.requires.2 c.set.ensures c.set-2.ensures)
     (λ j l.
-    solved_mixed a.g.n a.pair.x a.pair.y (column a.g a.stripe.now (a.i + j)) (sums.first j l) (sums.second j l) a.a.0 a.b.0
-    (ap (λ (l : List ℕ). get_or l j 0) c.combine-first.ensures ∙ each_at _ j l)
-    (ap (λ (l : List ℕ). get_or l j 0) c.add.ensures ∙ each_at _ j l))
+    solved_mixed a.at.g.n a.pair.x a.pair.y (column a.at.g a.stripe.now (a.at.i + j)) (sums.first j l) (sums.second j l) a.a.0 a.b.0
+    (ap (λ (l : List ℕ). get_or l j 0) c.combine-first.ensures ∙ each_at _ j (omega (arith, h.held)))
+    (ap (λ (l : List ℕ). get_or l j 0) c.add.ensures ∙ each_at _ j (omega (arith, h.held))))
