@@ -15,6 +15,7 @@ ghost use Rattle.compare.specs.Repair.{unclear, repair_refusal};
 use chunk::{Sums, WIDTH};
 use losses::Pair;
 use shape::{Geometry, Refusal};
+use stretch::Stretch;
 use sums::{CHUNKS, STRIP};
 
 // Fills the room with the verdicts and answers their summary. Where a check is refused: 0, and the room stays.
@@ -170,7 +171,12 @@ impl Stripe<'_> {
             x: g.n + 2,
             y: g.n + 2,
         };
-        let s = sums::part_survivors(g, self.bytes, i, room.len(), none);
+        let at = Stretch {
+            g,
+            i,
+            w: room.len(),
+        };
+        let s = sums::part_survivors(at, self.bytes, none);
         if chunk::are_zero(&s.p, &s.q) {
             room.fill(0);
             return 0;

@@ -14,6 +14,7 @@ ghost use Rattle.write.specs.Write.{WriteCall};
 use chunk::{Sums, WIDTH};
 use gf256::Element;
 use shape::{Geometry, Refusal};
+use stretch::Stretch;
 
 // Sets a stretch of one data disk, and adds what changed to P and Q, also where the stripe is not
 // encoded.
@@ -56,18 +57,18 @@ fn write_columns(g: Geometry, stripe: &mut [u8], disk: usize, i: usize, c: Eleme
     ensures { ColumnsMapped g i (length new.now) (λ j col. write_column reed_solomon g.n disk (get_or new.now j 0) col) stripe.old stripe.new }
 {
     // The columns are there. Tested once here, they cost no test in the six calls below.
-    let w = new.len();
-    if !stretch::has_columns(g, stripe.len(), i, w) {
+    let at = Stretch { g, i, w: new.len() };
+    if !at.is_in(stripe.len()) {
         return;
     }
-    let old = stretch::load(g, stripe, disk, i, w);
-    let p = stretch::load(g, stripe, g.n, i, w);
-    let q = stretch::load(g, stripe, g.n + 1, i, w);
+    let old = at.load(stripe, disk);
+    let p = at.load(stripe, g.n);
+    let q = at.load(stripe, g.n + 1);
     let new = chunk::load(new);
     let after = change::changed(c, old, new, Sums { p, q });
     let p = after.p;
     let q = after.q;
-    stretch::set(g, stripe, g.n + 1, i, w, q);
-    stretch::set(g, stripe, g.n, i, w, p);
-    stretch::set(g, stripe, disk, i, w, new);
+    at.set(stripe, g.n + 1, q);
+    at.set(stripe, g.n, p);
+    at.set(stripe, disk, new);
 }
