@@ -112,7 +112,8 @@ fn common_verdict(n: usize, sums: &Sums, guess: u16) -> Option<u16>
     verdict_by(n, *sums, guessed(guess)).or_else(|| verdict_by(n, *sums, ratio(largest_pair(sums))))
 }
 
-// The common verdict where Q* is c P* at every place, and none where it is not.
+// The common verdict where Q* is c P* at every place, and none where it is not. The sums come by value, since the proof needs
+// that they are bytes, which it knows of a value and not behind a reference.
 fn verdict_by(n: usize, sums: Sums, c: Element) -> Option<u16>
     requires { all_zero sums.p sums.p ≡ false }
     ensures { IfSome result (λ v. WithSummary (verdicts_of n sums.p sums.q width) v (each (unclean v sums.p sums.q))) }
