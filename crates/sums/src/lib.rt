@@ -159,7 +159,9 @@ pub fn set_parities(g: Geometry, stripe: &mut [u8])
     }
 }
 
-// The sum of the data and P of each column without role x. Q is neither read nor summed.
+// The sum of the data and P of each column without role x. Q is neither read nor summed. It is written into its calls, so that
+// the compiler knows the width of a whole chunk.
+#[inline(always)]
 pub fn sum_without(at: Stretch, stripe: &[u8], x: usize) -> [u8; WIDTH]
     ensures { result ≡ each (λ j. by_p at.g.n x (column_of at.g stripe.now at.i at.w j)) }
 {
