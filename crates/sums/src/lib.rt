@@ -10,7 +10,7 @@ ghost use Rattle.shape.specs.Columns.{ColumnsMapped};
 ghost use Rattle.column.specs.Column.{put, encode_column, reed_solomon};
 ghost use Rattle.stretch.specs.Stretch.{Has, column_of, set_on};
 ghost use Rattle.sums.specs.Sums.{parities_of, sums_of, Tails, StoredAdded, DisksAdded, AddedAbove};
-ghost use Rattle.sums.specs.Strip.{strip, in_strips, has_strip, HasStrip, strip_column, StripSummed, Stage, outside, plain_group, GroupAdded, AddedWithin};
+ghost use Rattle.sums.specs.Strip.{in_strips, has_strip, HasStrip, over_strip, StripSummed, staged, outside, plain_group, GroupAdded, AddedWithin};
 ghost use Rattle.sums.specs.Passes.{page, in_passes, parities_set, Passed};
 
 use chunk::{Sums, WIDTH};
@@ -102,28 +102,20 @@ pub fn part_survivors(at: Stretch, stripe: &[u8], pair: Pair) -> Sums
     sums
 }
 
-// The same of a strip, left in p and q; they stay where the stripe has not these columns. With many
+// The same of each chunk of a strip, left in `strip`, which stays where the stripe has not these columns. With many
 // disks this is faster than chunk after chunk: a strip of some disks is read before the next ones. The groups of disks go
 // down and the last has what is left, so that no range gives them.
-pub fn strip_survivors(
-    g: Geometry,
-    stripe: &[u8],
-    i: usize,
-    pair: Pair,
-    p: &mut [u8; STRIP],
-    q: &mut [u8; STRIP],
-)
-    ensures { StripSummed g i pair.x pair.y stripe.now p.old q.old p.new q.new }
+pub fn strip_survivors(g: Geometry, stripe: &[u8], i: usize, pair: Pair, strip: &mut [Sums; CHUNKS])
+    ensures { StripSummed g i pair.x pair.y stripe.now strip.old strip.new }
 {
     if !has_strip(g, stripe.len(), i) {
         return;
     }
-    *p = [0u8; STRIP];
-    *q = [0u8; STRIP];
+    *strip = [Sums::ZERO; CHUNKS];
     let mut to = g.n;
     while 0 < to {
         let from = to.saturating_sub(GROUP);
-        add_to_strip(g, stripe, i, pair, from, to, p, q);
+        add_to_strip(g, stripe, i, pair, from, to, strip);
         to = from;
     }
 }
@@ -311,26 +303,18 @@ fn add_to_strip(
     pair: Pair,
     from: usize,
     to: usize,
-    p: &mut [u8],
-    q: &mut [u8],
+    strip: &mut [Sums; CHUNKS],
 )
-    requires { HasStrip g stripe.now i × (from < to) × (to ≤ g.n) × Stage strip g.n to (strip_column g stripe.now i pair.x pair.y) p.old q.old }
-    ensures { Stage strip g.n from (strip_column g stripe.now i pair.x pair.y) p.new q.new }
+    requires { HasStrip g stripe.now i × (from < to) × (to ≤ g.n) × (strip.old ≡ over_strip g stripe.now i pair.x pair.y (staged g.n to)) }
+    ensures { strip.new ≡ over_strip g stripe.now i pair.x pair.y (staged g.n from) }
 {
     for m in 0..CHUNKS {
-        let c = WIDTH * m;
-        let mut sums = Sums {
-            p: chunk::load(&p[c..c + WIDTH]),
-            q: chunk::load(&q[c..c + WIDTH]),
-        };
         let columns = Columns {
             g,
             stripe,
-            i: i + c,
+            i: i + WIDTH * m,
         };
-        columns.add_group(pair, from, to, &mut sums);
-        chunk::store(&mut p[c..c + WIDTH], sums.p);
-        chunk::store(&mut q[c..c + WIDTH], sums.q);
+        columns.add_group(pair, from, to, &mut strip[m]);
     }
 }
 
