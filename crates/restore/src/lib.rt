@@ -227,7 +227,7 @@ impl Step for ByBoth {
     ghost some = { Prim.search rules };
 }
 
-// The same of a strip, from the sums that are left in two arrays.
+// The same of a strip, from the sums of its chunks.
 #[derive(Clone, Copy)]
 struct StripByBoth {
     pair: Pair,
@@ -242,21 +242,15 @@ impl Step for StripByBoth {
     ghost plan = { λ it. Plan.ByBoth it.pair.x it.pair.y it.rule };
 
     fn restore(self, g: Geometry, stripe: &mut [u8], i: usize) {
-        let mut p = [0u8; STRIP];
-        let mut q = [0u8; STRIP];
-        sums::strip_survivors(g, stripe, i, self.pair, &mut p, &mut q);
+        let mut strip = [Sums::ZERO; CHUNKS];
+        sums::strip_survivors(g, stripe, i, self.pair, &mut strip);
         for m in 0..CHUNKS {
-            let c = WIDTH * m;
-            let sums = Sums {
-                p: chunk::load(&p[c..c + WIDTH]),
-                q: chunk::load(&q[c..c + WIDTH]),
-            };
             let at = Stretch {
                 g,
-                i: i + c,
+                i: i + WIDTH * m,
                 w: WIDTH,
             };
-            set_solved(at, stripe, self.pair, self.rule, sums);
+            set_solved(at, stripe, self.pair, self.rule, strip[m]);
         }
     }
 

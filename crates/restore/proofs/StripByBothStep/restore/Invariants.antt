@@ -1,5 +1,5 @@
--- `StripByBoth` meets its contract. The loop's invariant: the first m chunks are restored. What p and q hold is of the columns as they
--- were; those that are still to come have not changed.
+-- `StripByBoth` meets its contract. The loop's invariant: the first m chunks are restored. The sums are of the columns as they were;
+-- those that are still to come have not changed.
 use Prim.Native.Nat.{◌*◌}
 use Rattle.chunk.specs.Chunk.{width}
 use Rattle.losses.specs.Losses.{solved}
