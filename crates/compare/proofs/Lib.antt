@@ -1,3 +1,4 @@
 pub mod CheckedBelow
 pub mod Faulty
 pub mod Order
+mod Verdicts

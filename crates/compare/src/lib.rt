@@ -112,19 +112,14 @@ impl Stripe<'_> {
             x: g.n + 2,
             y: g.n + 2,
         };
-        let mut p = [0u8; STRIP];
-        let mut q = [0u8; STRIP];
-        sums::strip_survivors(g, self.bytes, i, none, &mut p, &mut q);
+        let mut strip = [Sums::ZERO; CHUNKS];
+        sums::strip_survivors(g, self.bytes, i, none, &mut strip);
         let mut found = 0;
         for m in 0..CHUNKS {
             let c = WIDTH * m;
-            let s = Sums {
-                p: chunk::load(&p[c..c + WIDTH]),
-                q: chunk::load(&q[c..c + WIDTH]),
-            };
             found = verdict::joined(
                 found,
-                verdict::verdicts_of(g.n, &s, found, &mut room[c..c + WIDTH]),
+                verdict::verdicts_of(g.n, &strip[m], found, &mut room[c..c + WIDTH]),
             );
         }
         found

@@ -1,6 +1,7 @@
 -- `compare::Stripe::check_strip` meets its contract.
-use mathlib.Core.Path.{◌≡◌, ap, ap₂, sym, ◌∙◌, subst}
+use mathlib.Core.Path.{◌≡◌, ap, sym, ◌∙◌, subst}
 use Prim.Native.Nat.{ℕ, ◌+◌, ◌*◌, ◌-◌, ◌≤◌}
+use native.Mathlib.Nat.{le_refl}
 use native.Mathlib.Omega.{arith}
 use borrow.Rule.Slice.PartMut.{put_mid, Post-is}
 use lib.ListN.{length, get_or, take, drop}
@@ -8,13 +9,14 @@ use Rattle.base.specs.Table.{tabulate}
 use Rattle.base.proofs.Tails.{part_length}
 use Rattle.base.proofs.Table.{tabulate_same}
 use Rattle.chunk.specs.Chunk.{width}
-use Rattle.column.specs.Column.{verdict, verdict_of, syndrome_p, syndrome_q, reed_solomon}
-use Rattle.losses.proofs.Without.{none_lost}
+use Rattle.column.specs.Column.{verdict}
 use Rattle.shape.specs.Layout.{column}
 use Rattle.sums.specs.Strip.{strip, HasStrip}
-use Rattle.sums.proofs.Strips.{chunk_seen}
+use Rattle.sums.proofs.Strips.{none, chunk_summed}
+use Rattle.verdict.specs.Verdicts.{verdicts_of}
 use Rattle.verdict.proofs.Summary.{FilledWithSummary, summary_filled_none, summary_filled_part, summary_filled_all, summary_as}
 use Rattle.compare.specs.Compare.{verdicts_from}
+use Rattle.compare.proofs.Verdicts.{verdicts_summed}
 use Rattle.compare.proofs.Stripe.check_strip.Goals as goal
 
 pub loop-m-init : goal.loop-m-init
@@ -32,12 +34,12 @@ loop-m-preserved c =
     let fits : k + width ≤ strip = omega (arith, c.loop-m-test) in
     let next : k + width ≡ width * (l.m + 1) = omega arith in
     let size : length (take (k + width - k) (drop k l.room)) ≡ width = part_length l.room k (k + width) (omega arith) (omega (arith, fits, l.invariant.filled.long)) ∙ omega arith in
-    let sums = c.strip_survivors.ensures in
-    let of_p = chunk_seen h k fits (n + 2) (n + 2) (syndrome_p n) _ sums.first c.load.ensures in
-    let of_q = chunk_seen h k fits (n + 2) (n + 2) (syndrome_q reed_solomon n) _ sums.second c.load-in-loop-m.ensures in
-    let told : tabulate (length (take (k + width - k) (drop k l.room))) (λ j. verdict_of n (get_or c.load.result j 0) (get_or c.load-in-loop-m.result j 0)) ≡ tabulate width (λ j. f (k + j)) =
-    ap (λ (w : ℕ). tabulate w (λ j. verdict_of n (get_or c.load.result j 0) (get_or c.load-in-loop-m.result j 0))) size
-    ∙ tabulate_same width (λ j h. ap₂ (verdict_of n) (of_p j h ∙ (none_lost n (column s.g s.bytes.now (a.i + k + j))).0) (of_q j h ∙ (none_lost n (column s.g s.bytes.now (a.i + k + j))).1) ∙ ap (λ (i : ℕ). verdict n (column s.g s.bytes.now i)) (omega arith)) in
+    let r = get_or c.strip_survivors.new.strip l.m none in
+    let sums = chunk_summed h (n + 2) (n + 2) _ c.strip_survivors.ensures l.m c.loop-m-test.true in
+    let told : verdicts_of n r.p r.q (length (take (k + width - k) (drop k l.room))) ≡ tabulate width (λ j. f (k + j)) =
+    ap (verdicts_of n r.p r.q) size
+    ∙ verdicts_summed (a.i + k) width s.shaped (omega (arith, fits, c.requires.0), le_refl width) sums
+    ∙ tabulate_same width (λ j h. ap (λ (i : ℕ). verdict n (column s.g s.bytes.now i)) (omega arith)) in
     subst (λ (e : ℕ). FilledWithSummary f strip a.room.now (put_mid k (k + width - k) l.room c.verdicts_of.new.room) e c.joined-found.result) next (summary_filled_part width l.invariant fits (summary_as told c.verdicts_of.ensures) (Post-is k (k + width) l.room (omega arith)) c.joined-found.ensures)
 
 pub returns : goal.returns
