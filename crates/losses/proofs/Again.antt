@@ -46,6 +46,8 @@ module _ (n : ℕ) where
   restored_again (FromData false) c =
       ap (λ (w : ℕ). put (n + 1) w (restored_by n (FromData false) c)) (weighted_outside reed_solomon.act (λ k. product_right (power 2 k)) n c (n + 1) _ (omega arith))
       ∙ put_twice (n + 1) _ _ c
-  restored_again (ByBoth x y rule) c =
+  restored_again (ByBoth pair rule) c =
+      let x = pair.x in
+      let y = pair.y in
       ap (λ (e : Column). let bytes = solution rule (syndrome_p n e) (syndrome_q reed_solomon n e) in put x bytes.first (put y bytes.second (solved n x y rule c))) (without_put x y _ _ c)
       ∙ put_again x y _ _ c

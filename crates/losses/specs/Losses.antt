@@ -48,10 +48,14 @@ abbrev pub restored_by : ℕ → Plan → Column → Column
 restored_by n (ByP x) c = put x (by_p n x c) c
 restored_by n (FromData true) c = encode_column reed_solomon n c
 restored_by n (FromData false) c = put (n + 1) (parity_q reed_solomon n c) c
-restored_by n (ByBoth x y rule) c = solved n x y rule c
+restored_by n (ByBoth pair rule) c = solved n pair.x pair.y rule c
 
--- the roles of a plan are those of a stripe with n data disks
+-- both are roles of a stripe with n data disks
+abbrev pub KnownPair : ℕ → Pair → Type 0
+KnownPair n pair = (pair.x < n + 2) × (pair.y < n + 2)
+
+-- so are those of a plan
 abbrev pub KnownPlan : ℕ → Plan → Type 0
 KnownPlan n (ByP x) = x < n + 2
 KnownPlan n (FromData with_p) = Unit {0}
-KnownPlan n (ByBoth x y rule) = (x < n + 2) × (y < n + 2)
+KnownPlan n (ByBoth pair rule) = KnownPair n pair

@@ -43,7 +43,7 @@ pub enum Plan {
     // plans there would be two of each of those functions.
     FromData(bool),
     // Two roles, the first of them data, by both sums and a rule.
-    ByBoth(usize, usize, Rule),
+    ByBoth(Pair, Rule),
 }
 
 // The new bytes of the two lost roles in a chunk.

@@ -26,9 +26,9 @@ alone n Q = FromData false
 
 -- data disk x and another device
 abbrev pub with_data : ℕ → ℕ → Device → Plan
-with_data n x (Data y) = ByBoth x y (mixed x y)
-with_data n x P = ByBoth x n (Mixed (element 0) (element (over_power x)))
-with_data n x Q = ByBoth x (n + 1) (Carried (element (power 2 x)))
+with_data n x (Data y) = ByBoth (record { x = x; y = y }) (mixed x y)
+with_data n x P = ByBoth (record { x = x; y = n }) (Mixed (element 0) (element (over_power x)))
+with_data n x Q = ByBoth (record { x = x; y = n + 1 }) (Carried (element (power 2 x)))
 
 abbrev pub plan_of : ℕ → Lost → Plan
 plan_of n (One d) = alone n d

@@ -11,7 +11,7 @@ ghost use Rattle.plans.specs.Plans.{alone, with_data, plan_of, asked_of, mixed};
 
 use column::{Device, Lost};
 use gf256::Element;
-use losses::{Plan, Rule};
+use losses::{Pair, Plan, Rule};
 use shape::{Geometry, Refusal};
 
 // What a rebuild asks for: its refusal, or else the plan of its loss.
@@ -54,9 +54,9 @@ fn with_data(n: usize, x: usize, other: Device) -> Plan
     ensures { result ≡ with_data n x other }
 {
     match other {
-        Device::Data(y) => Plan::ByBoth(x, y, coefficients(x, y)),
-        Device::P => Plan::ByBoth(x, n, Rule::Mixed(Element(0), over_power(x))),
-        Device::Q => Plan::ByBoth(x, n + 1, Rule::Carried(power_of_disk(x))),
+        Device::Data(y) => Plan::ByBoth(Pair { x, y }, coefficients(x, y)),
+        Device::P => Plan::ByBoth(Pair { x, y: n }, Rule::Mixed(Element(0), over_power(x))),
+        Device::Q => Plan::ByBoth(Pair { x, y: n + 1 }, Rule::Carried(power_of_disk(x))),
     }
 }
 

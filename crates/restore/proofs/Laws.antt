@@ -35,7 +35,7 @@ use Rattle.restore.specs.Restore.{known_plan, restored, Survivors}
 known_true : (n : ℕ) (plan : Plan) → KnownPlan n plan → known_plan n plan ≡ true
 known_true n (ByP x) h = lt-ltb x (n + 2) h
 known_true n (FromData with_p) h = refl
-known_true n (ByBoth x y rule) h = rw (lt-ltb x (n + 2) h.0, lt-ltb y (n + 2) h.1)
+known_true n (ByBoth pair rule) h = rw (lt-ltb pair.x (n + 2) h.0, lt-ltb pair.y (n + 2) h.1)
 
 pub restored_is : (g : Geometry) (plan : Plan) (s : List ℕ) → WellShaped g s → KnownPlan g.n plan → restored g plan s ≡ lift g (λ i c. restored_by g.n plan c) s
 restored_is g plan s shaped h = rw (shape_accepts g s shaped, known_true g.n plan h)

@@ -16,7 +16,7 @@ use Rattle.shape.specs.Refusals.{encode_refusal}
 abbrev pub known_plan : ℕ → Plan → Bool
 known_plan n (ByP x) = ltb x (n + 2)
 known_plan n (FromData with_p) = true
-known_plan n (ByBoth x y rule) = both (ltb x (n + 2)) (ltb y (n + 2))
+known_plan n (ByBoth pair rule) = both (ltb pair.x (n + 2)) (ltb pair.y (n + 2))
 
 -- every column restored; the buffer as it was where it is no stripe, or not one that has these roles
 abbrev pub restored : Geometry → Plan → List ℕ → List ℕ

@@ -7,7 +7,7 @@ ghost use Rattle.std.proofs.Common.{rules};
 ghost use Rattle.column.specs.Column.{encode_column, reed_solomon};
 ghost use Rattle.chunk.specs.Chunk.{width};
 ghost use Rattle.losses.specs.declared.Plan.{Plan};
-ghost use Rattle.losses.specs.Losses.{without, restored_by, solved, KnownPlan};
+ghost use Rattle.losses.specs.Losses.{without, restored_by, solved, KnownPair, KnownPlan};
 ghost use Rattle.shape.specs.Layout.{lift};
 ghost use Rattle.shape.specs.Refusals.{WellShaped};
 ghost use Rattle.shape.specs.Columns.{ColumnsMapped};
@@ -43,11 +43,11 @@ pub fn has_roles(n: usize, plan: Plan) -> bool
     match plan {
         Plan::ByP(x) => stretch::has_role(n, x),
         Plan::FromData(_) => true,
-        Plan::ByBoth(x, y, _) => stretch::has_role(n, x) && stretch::has_role(n, y),
+        Plan::ByBoth(pair, _) => stretch::has_role(n, pair.x) && stretch::has_role(n, pair.y),
     }
 }
 
-// By strips where that is faster. The plan is asked for once a call, so that no closure or trait would be plainer.
+// By strips where that is faster. The plan is asked for here and not at each chunk, so that no closure or trait would be plainer.
 fn restore_known(g: Geometry, stripe: &mut [u8], plan: Plan)
     requires { WellShaped g stripe.old × KnownPlan g.n plan }
     ensures { stripe.new ≡ lift g (λ i c. restored_by g.n plan c) stripe.old }
@@ -61,9 +61,8 @@ fn restore_known(g: Geometry, stripe: &mut [u8], plan: Plan)
                 restore_columns(g, stripe, plan);
             }
         }
-        Plan::ByBoth(x, y, rule) => {
+        Plan::ByBoth(pair, rule) => {
             if sums::in_strips(g) {
-                let pair = Pair { x, y };
                 restore_by(g, stripe, StripByBoth { pair, rule });
             } else {
                 restore_columns(g, stripe, plan);
@@ -92,7 +91,7 @@ fn restore_parities(g: Geometry, stripe: &mut [u8])
     restore_columns(g, stripe, Plan::FromData(true));
 }
 
-// By chunks; a block below one is a part. Here and in `restore_part`, too, the plan is asked for once a call.
+// By chunks; a block below one is a part. Here and in `restore_part`, too, it is not asked for at each chunk.
 fn restore_columns(g: Geometry, stripe: &mut [u8], plan: Plan)
     requires { WellShaped g stripe.old × KnownPlan g.n plan }
     ensures { stripe.new ≡ lift g (λ i c. restored_by g.n plan c) stripe.old }
@@ -104,10 +103,7 @@ fn restore_columns(g: Geometry, stripe: &mut [u8], plan: Plan)
     match plan {
         Plan::ByP(x) => restore_by(g, stripe, ByP { x }),
         Plan::FromData(both) => restore_by(g, stripe, FromData { both }),
-        Plan::ByBoth(x, y, rule) => {
-            let pair = Pair { x, y };
-            restore_by(g, stripe, ByBoth { pair, rule });
-        }
+        Plan::ByBoth(pair, rule) => restore_by(g, stripe, ByBoth { pair, rule }),
     }
 }
 
@@ -126,8 +122,7 @@ fn restore_part(g: Geometry, stripe: &mut [u8], plan: Plan)
             let sums = sums::part_survivors(at, stripe, pair);
             set_from_data(at, stripe, both, sums);
         }
-        Plan::ByBoth(x, y, rule) => {
-            let pair = Pair { x, y };
+        Plan::ByBoth(pair, rule) => {
             let sums = sums::part_survivors(at, stripe, pair);
             set_solved(at, stripe, pair, rule, sums);
         }
@@ -213,7 +208,7 @@ impl Step for ByBoth {
 
     const COLUMNS: usize = WIDTH;
 
-    ghost plan = { λ it. Plan.ByBoth it.pair.x it.pair.y it.rule };
+    ghost plan = { λ it. Plan.ByBoth it.pair it.rule };
 
     fn restore(self, g: Geometry, stripe: &mut [u8], i: usize) {
         let sums = sums::survivors(g, stripe, i, self.pair);
@@ -239,7 +234,7 @@ impl Step for StripByBoth {
 
     const COLUMNS: usize = STRIP;
 
-    ghost plan = { λ it. Plan.ByBoth it.pair.x it.pair.y it.rule };
+    ghost plan = { λ it. Plan.ByBoth it.pair it.rule };
 
     fn restore(self, g: Geometry, stripe: &mut [u8], i: usize) {
         let mut strip = [Sums::ZERO; CHUNKS];
@@ -286,7 +281,7 @@ fn set_from_data(at: Stretch, stripe: &mut [u8], both: bool, sums: Sums)
 // same reason.
 #[inline(always)]
 fn set_solved(at: Stretch, stripe: &mut [u8], pair: Pair, rule: Rule, sums: Sums)
-    requires { Has at.g stripe.old at.i at.w × (pair.x < at.g.n + 2) × (pair.y < at.g.n + 2) × Survivors at.g stripe.old at.i at.w pair sums }
+    requires { Has at.g stripe.old at.i at.w × KnownPair at.g.n pair × Survivors at.g stripe.old at.i at.w pair sums }
     ensures { ColumnsMapped at.g at.i at.w (λ j c. solved at.g.n pair.x pair.y rule c) stripe.old stripe.new }
 {
     let new = losses::solve(rule, sums);
@@ -299,7 +294,7 @@ fn set_solved(at: Stretch, stripe: &mut [u8], pair: Pair, rule: Rule, sums: Sums
 // The first is a p + b q, the second what is left of p. `set_solved` is not called here: this is faster for a chunk
 // (docs/DECISIONS.md).
 fn set_mixed(at: Stretch, stripe: &mut [u8], pair: Pair, a: Element, b: Element, sums: Sums)
-    requires { Has at.g stripe.old at.i at.w × (pair.x < at.g.n + 2) × (pair.y < at.g.n + 2) × (sums ≡ sums_of at.g.n (λ j. without pair.x pair.y (column_of at.g stripe.old at.i at.w j))) }
+    requires { Has at.g stripe.old at.i at.w × KnownPair at.g.n pair × (sums ≡ sums_of at.g.n (λ j. without pair.x pair.y (column_of at.g stripe.old at.i at.w j))) }
     ensures { ColumnsMapped at.g at.i at.w (λ j c. solved at.g.n pair.x pair.y (Rule.Mixed a b) c) stripe.old stripe.new }
 {
     let mut p = sums.p;
@@ -312,7 +307,7 @@ fn set_mixed(at: Stretch, stripe: &mut [u8], pair: Pair, a: Element, b: Element,
 
 // The first is p, the second q + c p. Apart from `set_solved` for the same reason.
 fn set_carried(at: Stretch, stripe: &mut [u8], pair: Pair, c: Element, sums: Sums)
-    requires { Has at.g stripe.old at.i at.w × (pair.x < at.g.n + 2) × (pair.y < at.g.n + 2) × (sums ≡ sums_of at.g.n (λ j. without pair.x pair.y (column_of at.g stripe.old at.i at.w j))) }
+    requires { Has at.g stripe.old at.i at.w × KnownPair at.g.n pair × (sums ≡ sums_of at.g.n (λ j. without pair.x pair.y (column_of at.g stripe.old at.i at.w j))) }
     ensures { ColumnsMapped at.g at.i at.w (λ j c'. solved at.g.n pair.x pair.y (Rule.Carried c) c') stripe.old stripe.new }
 {
     let p = sums.p;

@@ -11,7 +11,7 @@ pub set_solved-requires : goal.set_solved-requires
 set_solved-requires c =
     let h = c.requires.0 in
     let known = rw c.in-ByBoth.is at c.requires.1 in
-    (h, known.0, known.1, survivors_seen h c.part_survivors-sums-in-ByBoth.ensures)
+    (h, known, survivors_seen h c.part_survivors-sums-in-ByBoth.ensures)
 
 pub returns-in-ByP : goal.returns-in-ByP
 returns-in-ByP c = rw c.in-ByP.is (columns_all c.requires.0.shaped c.restore_by_p.ensures)

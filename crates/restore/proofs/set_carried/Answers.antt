@@ -16,8 +16,8 @@ pub returns : goal.returns
 returns c =
     let a = c.args in
     let h = c.requires.0 in
-    let sums = survivors_seen h c.requires.3 in
-    columns_as (set_two h a.sums.p c.add_product.new.a c.requires.1 c.requires.2 c.set.ensures c.set-2.ensures)
+    let sums = survivors_seen h c.requires.2 in
+    columns_as (set_two h a.sums.p c.add_product.new.a c.requires.1.0 c.requires.1.1 c.set.ensures c.set-2.ensures)
     (λ j l.
     solved_carried a.at.g.n a.pair.x a.pair.y (column a.at.g a.stripe.now (a.at.i + j)) (sums.first j l) (sums.second j l) a.c.0
     (ap (λ (l : List ℕ). get_or l j 0) c.add_product.ensures ∙ each_at _ j (omega (arith, h.held))))

@@ -17,8 +17,8 @@ returns c =
     let a = c.args in
     let new = c.solve-new in
     let h = c.requires.0 in
-    let sums = c.requires.3 in
-    columns_as (set_two h new.result.first new.result.second c.requires.1 c.requires.2 c.set.ensures c.set-2.ensures)
+    let sums = c.requires.2 in
+    columns_as (set_two h new.result.first new.result.second c.requires.1.0 c.requires.1.1 c.set.ensures c.set-2.ensures)
     (λ j l.
     solved_as a.at.g.n a.pair.x a.pair.y (column a.at.g a.stripe.now (a.at.i + j)) a.rule
     (ap (λ (r : Restored). get_or r.first j 0) new.ensures ∙ each_at _ j (omega (arith, h.held)) ∙ ap₂ (λ (p q : ℕ). (solution a.rule p q).first) (sums.first j l) (sums.second j l))

@@ -27,8 +27,7 @@ set_solved-requires c =
     let same : (j : ℕ) → j < width → column a.g a.stripe.now (a.i + k + j) ≡ column a.g l.stripe (a.i + k + j) = λ j p. sym (l.invariant.outside (a.i + k + j) (omega (arith, held.fits)) (inr (omega arith))) in
     let sums = survivors_seen {pair = a.self.pair} chunk (chunk_summed held x y _ c.strip_survivors.ensures l.m c.loop-m-test.true) in (
       has_same chunk l.invariant.kept,
-      c.requires.2.0,
-      c.requires.2.1,
+      c.requires.2,
       record {
         first = λ j h. sums.first j h ∙ ap (λ (e : Column). syndrome_p n (without x y e)) (same j h);
         second = λ j h. sums.second j h ∙ ap (λ (e : Column). syndrome_q reed_solomon n (without x y e)) (same j h);
