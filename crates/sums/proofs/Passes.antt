@@ -26,10 +26,9 @@ use Rattle.shape.proofs.Accepts.{shape_accepts}
 use Rattle.shape.proofs.Columns.{shaped_same}
 use Rattle.stretch.specs.Stretch.{Has, column_of}
 use Rattle.stretch.proofs.Laws.{column_of_lem}
-use Rattle.sums.specs.Sums.{tail_p, tail_q, Tails, DisksAdded}
+use Rattle.sums.specs.Sums.{tail_p, tail_q, Tails, HighestAdded, DisksAdded}
 use Rattle.sums.specs.Passes.{page, in_passes, parities_set, stage, Staged, Passed}
 use Rattle.sums.proofs.Horner.{at, tail_p_all, tail_q_all}
-use Rattle.sums.proofs.Runs.{upper_added}
 
 -- what the tests say
 pub set_in_passes : (g : Geometry) (s : List ℕ) → WellShaped g s → in_passes g ≡ true → parities_set g s ≡ lift g (λ i c. encode_column reed_solomon g.n c) s
@@ -121,6 +120,13 @@ module _ {g : Geometry} {i from to m : ℕ} {s t : List ℕ} (fits : i + page �
   page_next {u} left chunk = subst (λ (w : ℕ). Passed g i w from to s u) (omega arith) (passed_more refl (omega (arith, fits)) passed chunk)
 
 -- ---- a chunk
+-- the highest disk, and the other disks of the first pass
+pub chunk_begun : (g : Geometry) (s : List ℕ) (i from : ℕ) {a b : Sums} → HighestAdded g i s a → DisksAdded g i from (g.n - 1) s a b → (f : ℕ → Column) → Staged g i width g.n f s
+    → Tails g.n from f b
+chunk_begun g s i from highest added f staged =
+    let same : (j k : ℕ) → j < width → f j k ≡ column g s (i + j) k = λ j k l. sym (ap (λ (e : Column). e k) (staged j l ∙ stage_none g.n (f j))) in
+    added f (λ j k l low high. same j k l) (highest f (λ j k l low high. same j k l))
+
 module _ {g : Geometry} {s : List ℕ} {i : ℕ} where
   -- P and Q put in each column, where they are the sums that the pass ends with
   pub chunk_passed : {from to : ℕ} (a : Sums) {t : List ℕ} → from < g.n → ((f : ℕ → Column) → Staged g i width to f s → Tails g.n from f a)
@@ -138,23 +144,6 @@ module _ {g : Geometry} {s : List ℕ} {i : ℕ} where
             ∙ sym (stage_some n (f j) some);
         outside = mapped.outside;
       }
-
-  -- the highest disk, and the other disks of the first pass
-  pub chunk_begun : {from : ℕ} (d : List ℕ) {a b : Sums} → Has g s i width → from < g.n → d ≡ each (λ j. column_of g s i width j (g.n - 1)) → ((j : ℕ) → get_or d j 0 < 256)
-      → a.p ≡ plus (replicate width 0) d
-      → a.q ≡ double_plus (replicate width 0) d
-      → DisksAdded g i from (g.n - 1) s a b
-      → (f : ℕ → Column)
-      → Staged g i width g.n f s
-      → Tails g.n from f b
-  chunk_begun d h some is bytes is_p is_q added f staged =
-      let same : (j : ℕ) → j < width → column g s (i + j) ≡ f j = λ j l. staged j l ∙ stage_none g.n (f j) in
-      upper_added g s i f d some (λ j k l low high. sym (ap (λ (e : Column). e k) (same j l)))
-      (is ∙ tabulate_same width (λ j l. ap (λ (e : Column). e (g.n - 1)) (column_of_lem h j l ∙ same j l)))
-      bytes
-      is_p
-      is_q
-      added
 
   -- the sums that P and Q hold, and the disks of the pass added to them
   pub chunk_carried : {from to : ℕ} {a b : Sums} → Has g s i width → to < g.n → a.p ≡ each (λ j. column_of g s i width j g.n) → a.q ≡ each (λ j. column_of g s i width j (g.n + 1))

@@ -21,7 +21,7 @@ use Rattle.shape.specs.Layout.{start, low_start, place_before, column}
 use Rattle.shape.proofs.Stretch.{block_start, before_start, stretch_inside}
 use Rattle.stretch.specs.Stretch.{Has, column_of}
 use Rattle.stretch.proofs.Laws.{column_of_lem}
-use Rattle.sums.specs.Sums.{Tails, Agrees, DisksAdded, AddedAbove}
+use Rattle.sums.specs.Sums.{Tails, Agrees, HighestAdded, DisksAdded, AddedAbove}
 use Rattle.sums.specs.Strip.{outside, AddedWithin}
 use Rattle.sums.proofs.Horner.{tails_none, tails_more}
 
@@ -62,22 +62,23 @@ disk_added g s i {k = k} d next h most added place is bytes is_p is_q f agrees t
     is_p
     is_q
 
--- the highest disk, and those below it down to `from`
-pub upper_added : (g : Geometry) (s : List ℕ) (i : ℕ) {from : ℕ} (f : ℕ → Column) (d : List ℕ) {a b : Sums} → from < g.n → Agrees g i from g.n s f → d ≡ each (λ j. f j (g.n - 1))
-    → ((j : ℕ) → get_or d j 0 < 256)
+-- the highest disk, and all disks
+pub highest_added : {g : Geometry} {s : List ℕ} {i : ℕ} (d : List ℕ) {a : Sums} → Has g s i width → d ≡ each (λ j. column_of g s i width j (g.n - 1)) → ((j : ℕ) → get_or d j 0 < 256)
     → a.p ≡ plus (replicate width 0) d
     → a.q ≡ double_plus (replicate width 0) d
-    → DisksAdded g i from (g.n - 1) s a b
-    → Tails g.n from f b
-upper_added g s i f d h agrees highest bytes is_p is_q below =
-    below f (λ j k l low high. agrees j k l low (omega arith)) (tails_more g.n f d (omega arith) (omega arith) (tails_none g.n f) highest bytes is_p is_q)
+    → HighestAdded g i s a
+highest_added {g} d h is bytes is_p is_q f agrees =
+    let some = h.shaped.disk in
+    tails_more g.n f d (omega arith) (omega arith) (tails_none g.n f)
+    (is ∙ tabulate_same width (λ j l. ap (λ (e : Column). e (g.n - 1)) (column_of_lem h j l) ∙ sym (agrees j (g.n - 1) l (omega arith) (omega arith))))
+    bytes
+    is_p
+    is_q
 
-pub all_added : {g : Geometry} {s : List ℕ} {i : ℕ} (d : List ℕ) {a b : Sums} → Has g s i width → d ≡ each (λ j. column_of g s i width j (g.n - 1)) → ((j : ℕ) → get_or d j 0 < 256)
-    → a.p ≡ plus (replicate width 0) d
-    → a.q ≡ double_plus (replicate width 0) d
-    → DisksAdded g i 0 (g.n - 1) s a b
-    → Tails g.n 0 (column_of g s i width) b
-all_added {g} {s} {i} d h = upper_added g s i (column_of g s i width) d h.shaped.disk (λ j k l low high. ap (λ (e : Column). e k) (column_of_lem h j l))
+pub all_added : {g : Geometry} {s : List ℕ} {i : ℕ} {a b : Sums} → Has g s i width → HighestAdded g i s a → DisksAdded g i 0 (g.n - 1) s a b → Tails g.n 0 (column_of g s i width) b
+all_added {g} {s} {i} h highest below =
+    let same : (j k : ℕ) → j < width → column_of g s i width j k ≡ column g s (i + j) k = λ j k l. ap (λ (e : Column). e k) (column_of_lem h j l) in
+    below _ (λ j k l low high. same j k l) (highest _ (λ j k l low high. same j k l))
 
 -- among all disks a lost one lies above none
 pub within_all : {g : Geometry} {i lost to : ℕ} {s : List ℕ} {a b : Sums} {r : ℕ} → AddedAbove g i lost to s a r b → AddedWithin g i lost 0 to s a r b

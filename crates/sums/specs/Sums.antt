@@ -36,6 +36,10 @@ StoredAdded n f a b = (b.p ≡ plus a.p (each (λ j. f j n))) × (b.q ≡ plus a
 abbrev pub Agrees : Geometry → ℕ → ℕ → ℕ → List ℕ → (ℕ → Column) → Type 0
 Agrees g i from to s f = (j k : ℕ) → j < width → from ≤ k → k < to → f j k ≡ column g s (i + j) k
 
+-- a holds the highest disk alone
+abbrev pub HighestAdded : Geometry → ℕ → List ℕ → Sums → Type 0
+HighestAdded g i s a = (f : ℕ → Column) → Agrees g i (g.n - 1) g.n s f → Tails g.n (g.n - 1) f a
+
 -- these disks are added to a, which becomes b
 abbrev pub DisksAdded : Geometry → ℕ → ℕ → ℕ → List ℕ → Sums → Sums → Type 0
 DisksAdded g i from to s a b =

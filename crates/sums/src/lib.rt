@@ -9,7 +9,7 @@ ghost use Rattle.shape.specs.Refusals.{WellShaped};
 ghost use Rattle.shape.specs.Columns.{ColumnsMapped};
 ghost use Rattle.column.specs.Column.{put, encode_column, reed_solomon};
 ghost use Rattle.stretch.specs.Stretch.{Has, column_of, set_on};
-ghost use Rattle.sums.specs.Sums.{parities_of, sums_of, Tails, StoredAdded, DisksAdded, AddedAbove};
+ghost use Rattle.sums.specs.Sums.{parities_of, sums_of, Tails, HighestAdded, StoredAdded, DisksAdded, AddedAbove};
 ghost use Rattle.sums.specs.Strip.{in_strips, has_strip, HasStrip, over_strip, StripSummed, staged, outside, plain_group, GroupAdded, AddedWithin};
 ghost use Rattle.sums.specs.Passes.{page, in_passes, parities_set, Passed};
 
@@ -52,7 +52,7 @@ pub fn parities(g: Geometry, stripe: &[u8], i: usize) -> Sums
     Columns { g, stripe, i }.data_sums()
 }
 
-// P* and Q* of each column of a chunk: the parities that the data give, and the stored ones added.
+// P* and Q* of each column of a chunk: the parities that the data give, and the stored ones added, none of which is lost.
 pub fn syndromes(g: Geometry, stripe: &[u8], i: usize) -> Sums
     ensures { result ≡ sums_of g.n (column_of g stripe.now i width) }
 {
@@ -86,7 +86,8 @@ pub fn survivors(g: Geometry, stripe: &[u8], i: usize, pair: Pair) -> Sums
     sums
 }
 
-// The same of any stretch. `survivors` is not this at a chunk's width: it tests no disk for being lost.
+// The same of any stretch. `survivors` is not this at a chunk's width: it tests no disk for being lost, and as one function for both
+// it was slower (docs/DECISIONS.md).
 pub fn part_survivors(at: Stretch, stripe: &[u8], pair: Pair) -> Sums
     ensures { result ≡ sums_of at.g.n (λ j. without pair.x pair.y (column_of at.g stripe.now at.i at.w j)) }
 {
@@ -103,8 +104,7 @@ pub fn part_survivors(at: Stretch, stripe: &[u8], pair: Pair) -> Sums
 }
 
 // The same of each chunk of a strip, left in `strip`, which stays where the stripe has not these columns. With many
-// disks this is faster than chunk after chunk: a strip of some disks is read before the next ones. The groups of disks go
-// down and the last has what is left, so that no range gives them.
+// disks this is faster than chunk after chunk: a strip of some disks is read before the next ones. The last group has what is left.
 pub fn strip_survivors(g: Geometry, stripe: &[u8], i: usize, pair: Pair, strip: &mut [Sums; CHUNKS])
     ensures { StripSummed g i pair.x pair.y stripe.now strip.old strip.new }
 {
@@ -112,11 +112,10 @@ pub fn strip_survivors(g: Geometry, stripe: &[u8], i: usize, pair: Pair, strip: 
         return;
     }
     *strip = [Sums::ZERO; CHUNKS];
-    let mut to = g.n;
-    while 0 < to {
+    for m in 0..g.n.div_ceil(GROUP) {
+        let to = g.n - GROUP * m;
         let from = to.saturating_sub(GROUP);
         add_to_strip(g, stripe, i, pair, from, to, strip);
-        to = from;
     }
 }
 
@@ -170,7 +169,8 @@ pub fn sum_without(at: Stretch, stripe: &[u8], x: usize) -> [u8; WIDTH]
     p
 }
 
-// A chunk's width of columns that a stripe has, to be read. `from` and `to` below are no `Range`, since that is not `Copy`.
+// A chunk's width of columns that a stripe has, to be read. `from` and `to` below stay two numbers: a `Range`
+// is not `Copy`, and a struct of ours would be made anew at each call, which takes other disks.
 #[derive(Clone, Copy)]
 struct Columns<'a> {
     g: Geometry,
@@ -196,17 +196,24 @@ impl Columns<'_> {
         self.load(self.g.start(role) + self.i)
     }
 
-    // All disks. The highest meets sums of 00, so that its step is a copy. It is compiled into each caller, as one that is called
-    // for each chunk.
+    // All disks. It is compiled into each caller, as one that is called for each chunk.
     #[inline(always)]
     fn data_sums(self) -> Sums
         ensures { Tails self.entry.g.n 0 (column_of self.entry.g self.entry.stripe.now self.entry.i width) result }
     {
+        let mut sums = self.highest();
+        self.add_pairs(self.g.n - 1, &mut sums);
+        sums
+    }
+
+    // The highest disk alone: it meets sums of 00, so that its step is a copy.
+    #[inline(always)]
+    fn highest(self) -> Sums
+        ensures { HighestAdded self.entry.g self.entry.i self.entry.stripe.now result }
+    {
         let mut sums = Sums::ZERO;
-        let k = self.g.n - 1;
-        let d = self.chunk(k);
+        let d = self.chunk(self.g.n - 1);
         sums.add_disk(&d);
-        self.add_pairs(k, &mut sums);
         sums
     }
 
@@ -354,18 +361,17 @@ fn load_but(at: Stretch, stripe: &[u8], role: usize, pair: Pair) -> [u8; WIDTH]
     at.load(stripe, role)
 }
 
-// The parities of a page of columns. The disks of a pass lie below those of the one before, and the last has what is left, so
-// that no range counts them.
+// The parities of a page of columns. The disks of a pass lie below those of the one before, and the last has what is left.
 fn set_page(g: Geometry, stripe: &mut [u8], i: usize)
     requires { WellShaped g stripe.old × (i + page ≤ g.b) }
     ensures { ColumnsMapped g i page (λ j c. encode_column reed_solomon g.n c) stripe.old stripe.new }
 {
-    let mut to = g.n.saturating_sub(PASS);
-    pass_over(g, stripe, i, Begin { from: to });
-    while 0 < to {
-        let next = to.saturating_sub(PASS);
-        pass_over(g, stripe, i, Carry { from: next, to });
-        to = next;
+    let below = g.n.saturating_sub(PASS);
+    pass_over(g, stripe, i, Begin { from: below });
+    for m in 0..below.div_ceil(PASS) {
+        let to = below - PASS * m;
+        let from = to.saturating_sub(PASS);
+        pass_over(g, stripe, i, Carry { from, to });
     }
 }
 
@@ -392,7 +398,7 @@ trait Pass: Copy {
         ensures { Passed g i width (from self) (to self g.n) stripe.old stripe.new };
 }
 
-// The first pass. The highest disk meets sums of 00, so that its step is a copy.
+// The first pass.
 #[derive(Clone, Copy)]
 struct Begin {
     from: usize,
@@ -407,11 +413,8 @@ impl Pass for Begin {
 
     fn chunk(self, g: Geometry, stripe: &mut [u8], i: usize) {
         let columns = Columns { g, stripe, i };
-        let mut sums = Sums::ZERO;
-        let k = g.n - 1;
-        let d = columns.chunk(k);
-        sums.add_disk(&d);
-        columns.add_disks(self.from, k, &mut sums);
+        let mut sums = columns.highest();
+        columns.add_disks(self.from, g.n - 1, &mut sums);
         set_sums(g, stripe, i, sums);
     }
 }
