@@ -9,11 +9,11 @@ use native.Mathlib.Nat.{not-suc-le-zero}
 use native.Mathlib.Omega.{arith}
 use borrow.Author.Tests.{eqb-true, eq-eqb, ne_eqb}
 use lib.Dec.{eqb, ltb}
-use lib.ListN.{get_or, replicate}
+use lib.ListN.{get_or}
 use Rattle.base.specs.Choice.{choose}
 use Rattle.base.proofs.Choice.{both_true, below_or_not}
 use Rattle.base.proofs.Table.{tabulate_same}
-use Rattle.chunk.specs.Chunk.{width, each, plus, double_plus}
+use Rattle.chunk.specs.Chunk.{width, each}
 use Rattle.chunk.specs.declared.Sums.{Sums}
 use Rattle.column.specs.Column.{Column, put, encode_column, reed_solomon}
 use Rattle.column.proofs.Put.{put_same, put_other}

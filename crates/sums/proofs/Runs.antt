@@ -21,7 +21,7 @@ use Rattle.shape.specs.Layout.{start, low_start, place_before, column}
 use Rattle.shape.proofs.Stretch.{block_start, before_start, stretch_inside}
 use Rattle.stretch.specs.Stretch.{Has, column_of}
 use Rattle.stretch.proofs.Laws.{column_of_lem}
-use Rattle.sums.specs.Sums.{Tails, Agrees, HighestAdded, DisksAdded, AddedAbove}
+use Rattle.sums.specs.Sums.{Tails, HighestAdded, DisksAdded, AddedAbove}
 use Rattle.sums.specs.Strip.{outside, AddedWithin}
 use Rattle.sums.proofs.Horner.{tails_none, tails_more}
 
