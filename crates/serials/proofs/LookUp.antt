@@ -4,17 +4,16 @@ use mathlib.Core.Path.{◌≡◌, refl, sym, ap, ap₂, ◌∙◌}
 use mathlib.Core.Logic.{◌≢◌}
 use mathlib.Core.Bool.{Bool, true, false, true≢false, false≢true}
 use mathlib.Core.List.{List, [], ◌∷◌}
-use Prim.Native.Nat.{ℕ, zero, suc, ◌<◌, suc-le-suc}
+use Prim.Native.Nat.{ℕ, zero, suc, ◌<◌, ◌≤◌, zero-le, suc-le-suc}
 use native.Mathlib.Nat.{not-suc-le-zero, le_of_suc-le-suc, zero-lt-suc}
 use native.Mathlib.Omega.{arith}
 use borrow.Author.Tests.{eq-eqb, eqb-true}
 use lib.Dec.{eqb}
-use lib.Pointwise.{pointwise}
-use lib.ListN.{length, get_or, drop}
-use lib.Seq.{drop-cons}
-use Rattle.base.specs.Choice.{choose, both}
+use lib.ListN.{length, get_or}
+use Rattle.base.specs.Choice.{choose}
 use Rattle.base.proofs.Choice.{both_true}
 use Rattle.std.specs.Prelude.{Option, Some, None, is_some}
+use Rattle.std.specs.Option.{MatchOption}
 use Rattle.serials.specs.Serials.{serials}
 use Rattle.serials.specs.LookUp.{alike, look_up_from, look_up}
 use Rattle.serials.specs.Lowest.{Lowest, Tells}
@@ -34,23 +33,6 @@ alike_self (a ∷ s) = rw (eq-eqb a a refl) (alike_self s)
 
 pub same_alike : {s t : List ℕ} → s ≡ t → alike s t ≡ true
 same_alike {s} e = ap (alike s) (sym e) ∙ alike_self s
-
--- what `==` answers of two slices
-pub pointwise_alike : (s t : List ℕ) → pointwise eqb s t ≡ alike s t
-pointwise_alike [] [] = refl
-pointwise_alike [] (b ∷ t) = refl
-pointwise_alike (a ∷ s) [] = refl
-pointwise_alike (a ∷ s) (b ∷ t) = ap (both (eqb a b)) (pointwise_alike s t)
-
--- ---- the search goes on while the serials differ
-module _ (k : ℕ) (ss : List (List ℕ)) (slot : ℕ) (asked : List ℕ) (h : slot < length ss) where
-  pub search_on : alike (get_or ss slot []) asked ≡ false → look_up_from k (drop slot ss) asked ≡ look_up_from (suc k) (drop (suc slot) ss) asked
-  unfolding look_up_from
-  search_on e = rw (drop-cons ss slot [] h, e)
-
-  pub search_ends : alike (get_or ss slot []) asked ≡ true → look_up_from k (drop slot ss) asked ≡ Some k
-  unfolding look_up_from
-  search_ends e = rw (drop-cons ss slot [] h, e)
 
 -- ---- what is found
 abbrev later : Option ℕ → Option ℕ
@@ -107,6 +89,14 @@ module _ (ss : List (List ℕ)) (asked : List ℕ) where
       go : (f : Option ℕ) → Tells ss asked f → f ≡ None
       go (Some j) t = absurd (none j t.there t.same)
       go None t = refl
+
+  -- what is found in slot order, as `find` gives it over a range
+  pub first_found : (n : ℕ) → n ≡ length ss → (r : Option ℕ)
+      → MatchOption r ((k : ℕ) → 0 ≤ k → k < n → get_or ss k [] ≢ asked)
+      (λ k. (0 ≤ k) × (k < n) × (get_or ss k [] ≡ asked) × ((j : ℕ) → 0 ≤ j → j < k → get_or ss j [] ≢ asked))
+      → r ≡ look_up ss asked
+  first_found n all None none = sym (held_nowhere (λ j l. none j zero-le (omega arith)))
+  first_found n all (Some k) h = sym (lowest_found k (record { there = omega (arith, h.1); same = h.2; before = λ j l. h.3 j zero-le l }))
 
   -- a serial is found only among those of its length
   pub other_length : ((j : ℕ) → j < length ss → length (get_or ss j []) ≢ length asked) → look_up ss asked ≡ None

@@ -32,12 +32,7 @@ impl<'a> Serials<'a> {
     pub fn find(&self, asked: &[u8]) -> Option<usize>
         ensures { result ≡ look_up self.now asked.now }
     {
-        for slot in 0..self.len() {
-            if self.get(slot) == asked {
-                return Some(slot);
-            }
-        }
-        None
+        (0..self.len()).find(|slot| self.get(*slot) == asked)
     }
 
     // The serials of the first slots, so many as are asked for or all.

@@ -1,40 +1,23 @@
--- `serials::Serials::find` meets its contract.
-use mathlib.Core.Path.{◌≡◌, refl, sym, ◌∙◌}
-use mathlib.Core.Bool.{Bool, true, false}
-use mathlib.Core.List.{List, []}
+-- `serials::Serials::find` meets its contract: it finds the lowest slot whose serial is the asked one.
+use mathlib.Core.Path.{◌≡◌}
+use mathlib.Core.Logic.{◌≢◌}
+use mathlib.Core.List.{[]}
+use borrow.Author.Tests.{tests}
+use borrow.Author.Rules.{rules}
+use lib.ListN.{get_or}
 use Prim.Native.Nat.{ℕ}
-use native.Mathlib.Omega.{arith}
-use native.Mathlib.Numerals.{add-one}
-use lib.Dec.{eqb}
-use lib.ListN.{get_or, drop_of_length-le}
-use lib.Pointwise.{pointwise}
-use Rattle.serials.specs.LookUp.{alike, look_up_from}
-use Rattle.serials.proofs.LookUp.{search_on, search_ends, pointwise_alike}
+use Rattle.std.proofs.lemmas.Iterator.{first_from_Range}
+use Rattle.std.proofs.lemmas.Slice.Eq.{bytes_eq-Decides}
+use Rattle.std.proofs.lemmas.Bool.Decides.{not_from_Decides}
+use Rattle.serials.proofs.LookUp.{first_found}
 use Rattle.serials.proofs.Serials.find.Goals as goal
 
--- what is compared at a slot
-compared : (ss : List (List ℕ)) (s asked : List ℕ) (slot : ℕ) (b : Bool) → s ≡ get_or ss slot [] → b ≡ pointwise eqb s asked → alike (get_or ss slot []) asked ≡ b
-compared ss s asked slot b is e = rw (← is) (sym (e ∙ pointwise_alike s asked))
-
-pub returns-then-eq : goal.returns-then-eq
-returns-then-eq c =
-    let l = c.loop-slot in
-    let a = c.args in
-    sym
-    (l.invariant
-    ∙ search_ends l.slot a.self.now l.slot a.asked.now (omega (arith, c.len-slot-end.ensures))
-    (compared a.self.now c.get.result.now a.asked.now l.slot true c.get.ensures c.if-eq.ensures))
-
-pub loop-slot-preserved : goal.loop-slot-preserved
-loop-slot-preserved c =
-    let l = c.loop-slot in
-    let a = c.args in
-    rw add-one
-    (l.invariant
-    ∙ search_on l.slot a.self.now l.slot a.asked.now (omega (arith, c.len-slot-end.ensures))
-    (compared a.self.now c.get.result.now a.asked.now l.slot false c.get.ensures c.if-eq.ensures))
-
 pub returns : goal.returns
-unfolding look_up_from
 returns c =
-    sym (c.loop-slot.invariant ∙ rw (drop_of_length-le c.args.self.now {i = c.loop-slot.slot} (omega (arith, c.len-slot-end.ensures))) refl)
+    let ss = c.args.self.now in
+    let asked = c.args.asked.now in
+    let compared = λ (k : ℕ). bytes_eq-Decides (get_or ss k []) asked in
+    first_found ss asked c.len.result c.len.ensures c.find.result
+    (first_from_Range _ _ _ c.find.result (λ k. get_or ss k [] ≡ asked) (λ k. get_or ss k [] ≢ asked) c.find.ensures.ran
+    (λ k q called. (compared k).0 (search (rules, tests)))
+    (λ k q called. (search (rules, tests), not_from_Decides _ (compared k) (search (rules, tests)))))
