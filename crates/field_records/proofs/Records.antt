@@ -2,13 +2,14 @@
 -- Assumes nothing.
 use mathlib.Core.Path.{◌≡◌, refl, sym, ap, ap₂, subst, ◌∙◌}
 use mathlib.Core.Logic.{◌≢◌}
-use mathlib.Core.List.{List}
+use mathlib.Core.List.{List, ◌++◌}
 use Prim.Native.Nat.{ℕ, zero, suc, ◌+◌, ◌*◌, ◌/◌, ◌%◌, ◌≤◌, ◌<◌}
 use native.Mathlib.Nat.{suc-ne-zero}
 use native.Mathlib.Omega.{arith}
 use borrow.Author.Tests.{lt-ltb, le-ltb}
-use lib.ListN.{length, get_or, set}
-use Rattle.base.proofs.Fill.{Filled, fill_more, fill_rest}
+use lib.ListN.{length, get_or, take, drop}
+use Rattle.base.proofs.Fill.{Filled, fill_part, fill_rest}
+use Rattle.base.proofs.Table.{is_tabulate}
 use Rattle.std.specs.Prelude.{Option, Some, None}
 use Rattle.field_records.specs.Records.{bytes_of, answer, big_endian, number_at, answer_at, records, placed, answered}
 
@@ -20,6 +21,10 @@ number_same : (k : ℕ) {a b : ℕ → ℕ} → ((j : ℕ) → a j ≡ b j) → 
 unfolding big_endian
 number_same zero same = refl
 number_same (suc k) same = ap₂ (λ (x y : ℕ). x * 256 + y) (number_same k same) (same k)
+
+two : (r : Option ℕ) → length (bytes_of r) ≡ 2
+two (Some v) = refl
+two None = refl
 
 -- the first 2k bytes of t are answers to records of s
 module _ (s t : List ℕ) (k : ℕ) (fill : Filled (placed s) (length s) s t (2 * k)) where
@@ -36,15 +41,15 @@ module _ (s t : List ℕ) (k : ℕ) (fill : Filled (placed s) (length s) s t (2 
       ∙ ap₂ (λ (j i : ℕ). get_or (bytes_of (answer_at s (10 * j))) i 0) (sym is) (sym which)
       ∙ sym (simp (lt-ltb place (2 * records s) below))
 
-  pub answered_more : {v w : ℕ} {r : Option ℕ} → k < records s → r ≡ answer_at t (10 * k) → v ≡ get_or (bytes_of r) 0 0 → w ≡ get_or (bytes_of r) 1 0
-      → Filled (placed s) (length s) s (set (set t (2 * k) v) (2 * k + 1) w) (2 * (k + 1))
-  answered_more {v} {w} {r} h e first second =
-      subst (λ (n : ℕ). Filled (placed s) (length s) s (set (set t (2 * k) v) (2 * k + 1) w) n) (omega arith)
-      (fill_more (fill_more fill (omega arith) (first ∙ told 0 ∙ byte_placed (omega arith) (omega arith) (omega arith) _)) (omega arith)
-      (second ∙ told 1 ∙ byte_placed (omega arith) (omega arith) (omega arith) _))
-    where
-      told : (i : ℕ) → get_or (bytes_of r) i 0 ≡ get_or (bytes_of (answer_at t (10 * k))) i 0
-      told i = ap (λ (r : Option ℕ). get_or (bytes_of r) i 0) e
+  pub answered_more : {m rest : List ℕ} {r : Option ℕ} → k < records s → r ≡ answer_at t (10 * k) → m ≡ bytes_of r → rest ≡ drop (2 * k + 2) t
+      → Filled (placed s) (length s) s (take (2 * k) t ++ (m ++ rest)) (2 * (k + 1))
+  answered_more {m} {rest} {r} h e is after =
+      subst (λ (n : ℕ). Filled (placed s) (length s) s (take (2 * k) t ++ (m ++ rest)) n) (omega arith)
+      (fill_part 2 fill (omega arith)
+      (is
+      ∙ ap bytes_of e
+      ∙ is_tabulate 2 (λ j. placed s (2 * k + j) (get_or s (2 * k + j) 0)) (bytes_of (answer_at t (10 * k))) (two (answer_at t (10 * k)))
+      (λ j p. byte_placed (omega arith) (omega arith) (omega arith) _)) after)
 
   pub answered_all : k ≡ records s → t ≡ answered s
   unfolding answered

@@ -1,11 +1,12 @@
 -- The answers to records of ten bytes: the operation's number, the operand a, and a big-endian number of eight bytes, which is the exponent
 -- of a power and otherwise holds the operand b in its low byte.
-use Rattle.std.specs.Prelude.{◌≡◌, List, [], ◌∷◌, ℕ, zero, suc, ◌+◌, ◌*◌, ◌/◌, ◌%◌, ltb, length, get_or, Option, Some, None}
+use Rattle.std.specs.Prelude.{◌≡◌, List, [], ◌∷◌, ℕ, zero, suc, ◌+◌, ◌*◌, ◌/◌, ◌%◌, ltb, length, get_or, Option, Some, None, Result, MatchResult, ◌⊎◌, ◌<◌}
 use Rattle.base.specs.Choice.{choose}
 use Rattle.base.specs.Table.{tabulate}
 use Rattle.gf256.specs.declared.Element.{Element}
 use Rattle.gf256.specs.Field.{sum, double, product, power, inverse, logarithm}
 use Rattle.field_records.specs.declared.Operation.{Operation}
+use Rattle.field_records.specs.declared.NoOperation.{NoOperation}
 use Rattle.field_records.specs.declared.Operation.TheVariants.{Sum, Product, Power, Inverse, Logarithm, Double}
 
 -- the two bytes of an answer: 01 and the value, or 00 00 for none
@@ -24,6 +25,10 @@ number_of Power = 3
 number_of Inverse = 4
 number_of Logarithm = 5
 number_of Double = 6
+
+-- the operation with this number, which an error says there is none of
+abbrev pub Operations : ℕ → Result Operation NoOperation → Type 0
+Operations number r = MatchResult r (λ operation. number_of operation ≡ number) (λ none. (number ≡ 0) ⊎ (6 < number))
 
 -- The operations by their numbers, from 1 on; any other number answers none.
 unfoldable pub answer : ℕ → ℕ → ℕ → Option ℕ

@@ -4,10 +4,11 @@
 // for none.
 #![tactic(auto)]
 
-ghost use Rattle.std.specs.Prelude.{◌≡◌, ◌+◌, ◌≤◌, ◌<◌, ◌⊎◌, length, MatchOption};
-ghost use Rattle.field_records.specs.Records.{number_of, bytes_of, answer, number_at, AnswerAllCall};
+ghost use Rattle.std.specs.Prelude.{◌≡◌, ◌+◌, ◌≤◌, ◌<◌, length};
+ghost use Rattle.field_records.specs.Records.{bytes_of, answer, number_at, Operations, AnswerAllCall};
 
 use gf256::Element;
+use std::array;
 
 // The operations, in the order of their numbers.
 #[derive(Clone, Copy)]
@@ -20,6 +21,28 @@ enum Operation {
     Double,
 }
 
+// No operation has the number.
+#[derive(Clone, Copy)]
+struct NoOperation;
+
+impl TryFrom<u8> for Operation {
+    type Error = NoOperation;
+
+    ghost try_from_gives = { Operations };
+
+    fn try_from(number: u8) -> Result<Operation, NoOperation> {
+        match number {
+            1 => Ok(Operation::Sum),
+            2 => Ok(Operation::Product),
+            3 => Ok(Operation::Power),
+            4 => Ok(Operation::Inverse),
+            5 => Ok(Operation::Logarithm),
+            6 => Ok(Operation::Double),
+            _ => Err(NoOperation),
+        }
+    }
+}
+
 // Puts the answers at the start of the records, each over bytes that are read already, and answers
 // how many bytes they are.
 pub fn answer_all(records: &mut [u8]) -> usize
@@ -30,9 +53,7 @@ pub fn answer_all(records: &mut [u8]) -> usize
         let at = 10 * k;
         let a = Element(records[at + 1]);
         let answer = answer_one(records[at], a, number(records, at + 2));
-        let [first, second] = bytes_of(answer);
-        records[2 * k] = first;
-        records[2 * k + 1] = second;
+        records[2 * k..2 * k + 2].copy_from_slice(&bytes_of(answer));
     }
     2 * count
 }
@@ -42,7 +63,7 @@ pub fn answer_all(records: &mut [u8]) -> usize
 fn answer_one(operation: u8, a: Element, b: u64) -> Option<u8>
     ensures { result ≡ answer operation a.0 b }
 {
-    let operation = numbered(operation)?;
+    let operation = Operation::try_from(operation).ok()?;
     let low = b % 256;
     let other = Element(low as u8);
     match operation {
@@ -52,20 +73,6 @@ fn answer_one(operation: u8, a: Element, b: u64) -> Option<u8>
         Operation::Inverse => Some(a.inverse()?.0),
         Operation::Logarithm => Some(a.logarithm()? as u8),
         Operation::Double => Some(a.double().0),
-    }
-}
-
-fn numbered(number: u8) -> Option<Operation>
-    ensures { MatchOption result ((number ≡ 0) ⊎ (6 < number)) (λ operation. number ≡ number_of operation) }
-{
-    match number {
-        1 => Some(Operation::Sum),
-        2 => Some(Operation::Product),
-        3 => Some(Operation::Power),
-        4 => Some(Operation::Inverse),
-        5 => Some(Operation::Logarithm),
-        6 => Some(Operation::Double),
-        _ => None,
     }
 }
 
@@ -83,14 +90,5 @@ fn number(bytes: &[u8], at: usize) -> u64
     requires { at + 8 ≤ length bytes.now }
     ensures { result ≡ number_at 8 bytes.now at }
 {
-    u64::from_be_bytes([
-        bytes[at],
-        bytes[at + 1],
-        bytes[at + 2],
-        bytes[at + 3],
-        bytes[at + 4],
-        bytes[at + 5],
-        bytes[at + 6],
-        bytes[at + 7],
-    ])
+    u64::from_be_bytes(array::from_fn(|k| bytes[at + k]))
 }
