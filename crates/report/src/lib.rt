@@ -40,8 +40,6 @@ fn put_all(values: &[u16], out: &mut [u8])
     ensures { out.new ≡ fields values.now }
 {
     for (i, value) in values.iter().enumerate() {
-        let [high, low] = header::big_endian(*value);
-        out[2 * i] = high;
-        out[2 * i + 1] = low;
+        out[2 * i..2 * i + 2].copy_from_slice(&header::big_endian(*value));
     }
 }
