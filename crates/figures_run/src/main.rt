@@ -28,17 +28,16 @@ enum Value {
     Singular(usize),
     Pair(usize, usize),
     Done,
-    TooFewBytes,
     WrongLength,
     RefusedChanged,
 }
 
 use Value::{
     Byte, Disks, Done, Exponent, Fit, Nothing, Pair, Parities, RefusedChanged, Singular, Stripe,
-    Summary, TooFewBytes, Verdict, WrongLength,
+    Summary, Verdict, WrongLength,
 };
 
-// Or its refusal.
+// Or its refusal, by the number: a case calls what is refused by one of three enums.
 type Outcome = Result<Value, u8>;
 
 fn main(rt: HostRuntime) -> io::Result<()> {
@@ -344,27 +343,23 @@ fn written() -> Outcome {
 
 // An encode of n disks of b bytes, in a job of so many bytes.
 fn job_result(n: u8, b: u16, len: usize) -> Outcome
-    requires { 8 ≤ len }
+    requires { (8 ≤ len) × (len ≤ 65550) }
 {
     let mut job = [0u8; 14 + 16 * 4096];
     let [high, low] = b.to_be_bytes();
     job[..14].copy_from_slice(&[
         b'S', b'R', b'J', 0, 1, 1, 0, n, high, low, 0xff, 0xff, 0xff, 0xff,
     ]);
-    answered(&job, len)
+    answered(&job[..len])
 }
 
-// What is answered to the first bytes.
-fn answered(bytes: &[u8], len: usize) -> Outcome
-    requires { 8 ≤ len }
+fn answered(job: &[u8]) -> Outcome
+    requires { 8 ≤ length job.now }
 {
-    let Some(job) = bytes.get(..len) else {
-        return Ok(TooFewBytes);
-    };
     let mut out = [0xffu8; 6 + LIMIT];
     let count = job::answer(job, &mut out);
     match out[5] {
-        0 if count == len - 8 => Ok(Done),
+        0 if count == job.len() - 8 => Ok(Done),
         0 => Ok(WrongLength),
         number => Err(number),
     }
@@ -457,7 +452,6 @@ impl Display for Value {
             Singular(i) => write!(f, "unfit, matrix {i}"),
             Pair(i, j) => write!(f, "unfit, pair ({i},{j})"),
             Done => write!(f, "done"),
-            TooFewBytes => write!(f, "too few bytes"),
             WrongLength => write!(f, "wrong length"),
             RefusedChanged => write!(f, "refused, changed"),
         }

@@ -154,6 +154,7 @@ fn call_refusal(
 
 // ---- 16-bit fields, high byte first
 
+// One line of std each, this and `byte`, with the definitions' words for what it gives.
 pub fn big_endian(value: u16) -> [u8; 2]
     ensures { result ≡ big_endian value }
 {

@@ -18,7 +18,8 @@ pub fn fill<R: Read>(input: &mut R, buffer: &mut [u8]) -> usize
     count
 }
 
-// Reads on until the buffer is full or the input ends, and counts the bytes, also those before a read that fails.
+// Reads on until the buffer is full or the input ends, and counts the bytes, also those before a read that fails: so the count is not in
+// the result, which tells whether one failed.
 fn read_on<R: Read>(input: &mut R, buffer: &mut [u8], count: &mut usize) -> io::Result<()>
     ensures within { count.new ≤ length buffer.new }
     ensures bytes { Consumes (R.remaining input.old) (R.remaining input.new) (take count.new buffer.new) }

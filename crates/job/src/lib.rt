@@ -57,7 +57,7 @@ fn respond(job: &[u8], asked: Result<Command, JobRefusal>, out: &mut [u8])
     }
 }
 
-// The number of a refusal, and 0 for a job that is not refused.
+// The number of a refusal, and 0 for a job that is not refused: `shape::number`, of the refusals of a job.
 fn result_byte(asked: Result<Command, JobRefusal>) -> u8
     ensures { result ≡ job_number asked }
 {

@@ -7,7 +7,8 @@ ghost use Rattle.judge_answer.specs.Answer.{answer_bytes};
 use bitmatrix::{Judgement, Refusal};
 use findings::Flaw;
 
-// The result number, the kind of finding (0 fit, 1 a matrix, 2 a pair), its places, the ones in two bytes, and whether they are minimal.
+// The result number, the kind of finding (0 fit, 1 a matrix, 2 a pair), its places, the ones in two bytes, and whether they are minimal. The
+// kind is a byte, since a program outside reads it.
 pub fn answer(judged: Result<Judgement, Refusal>) -> [u8; 7]
     ensures { result ≡ answer_bytes judged }
 {

@@ -6,7 +6,8 @@ ghost use Rattle.std.specs.Prelude.{◌≡◌, ◌+◌, ◌≤◌, min, length};
 ghost use Rattle.base.specs.Table.{spliced};
 ghost use Rattle.judge_records.specs.Records.{answer_at, JudgeAllCall};
 
-// Puts the answers to the whole records, as many as have room, at the start of the output and returns their length.
+// Puts the answers to the whole records, as many as have room, at the start of the output and returns their length. By index: what is
+// written through `chunks_exact_mut` no proof knows, and an answer has the place of its record.
 pub fn judge_all(codes: &[u8], out: &mut [u8]) -> usize
     ensures { JudgeAllCall codes.now out.old result out.new }
 {

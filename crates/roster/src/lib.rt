@@ -36,7 +36,8 @@ impl From<FaultyLine> for WriteError {
 }
 
 // Reads a roster, and answers the number of its slots. Its serials are those that the text and the ends of its lines
-// lend. Past its slots the ends stay, and where the text is refused all do.
+// lend. Past its slots the ends stay, and where the text is refused all do. The ends are the caller's, since nothing
+// is allocated.
 pub fn read(text: &[u8], ends: &mut [usize; MOST]) -> Result<usize, FaultyLine>
     ensures { ReadCall text.now ends.old result ends.new }
 {

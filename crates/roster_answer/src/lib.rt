@@ -39,6 +39,7 @@ fn tell_found(found: Option<usize>, out: &mut [u8]) -> usize
     }
 }
 
+// Each line's words stand whole, with the fault's number in them, so that they can be read here as a fitter gets them.
 fn tell_refused(fault: Fault, line: usize, out: &mut [u8]) -> usize
     requires { 73 ≤ length out.old }
     ensures { Begins (refused_line (number_of fault) line) out.old result out.new }

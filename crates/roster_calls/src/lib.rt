@@ -1,5 +1,5 @@
 // The roster's calls, exported for the tests and the bench alone, which call them from outside. An answer's number is returned, and the
-// value that comes with it is put in a place of its own. No premise is put on the caller.
+// value that comes with it is put in a place of its own, since C has none of Rattle's enums. No premise is put on the caller.
 #![tactic(auto)]
 
 ghost use Rattle.roster_calls.specs.Numbers.{ReadNumbers, WriteNumbers, LookUpNumbers};

@@ -1,5 +1,6 @@
 // What the shelf's controller, written in C, calls: include/shelf.h says it in C's terms. Every
-// number that is passed is 64 bits wide, and no premise is put on the caller.
+// number that is passed is 64 bits wide, and no premise is put on the caller. C has none of Rattle's
+// enums, so a refusal is told by its number, 0 for none, and a device is named by its code.
 #![tactic(auto)]
 
 ghost use Rattle.std.specs.Prelude.{◌≡◌};
