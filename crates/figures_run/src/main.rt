@@ -52,7 +52,7 @@ fn main(rt: HostRuntime) -> io::Result<()> {
     answering(&rt)
 }
 
-fn field(rt: &impl Print) -> io::Result<()> {
+fn field(rt: &HostRuntime) -> io::Result<()> {
     row(
         rt,
         "80 * 02",
@@ -82,7 +82,7 @@ fn field(rt: &impl Print) -> io::Result<()> {
     row(rt, "logarithm of 00", Ok(Nothing), exponent(Element(0x00)))
 }
 
-fn encoding(rt: &impl Print) -> io::Result<()> {
+fn encoding(rt: &HostRuntime) -> io::Result<()> {
     row(
         rt,
         "encode n=1: 5a",
@@ -128,7 +128,7 @@ fn encoding(rt: &impl Print) -> io::Result<()> {
     )
 }
 
-fn rebuilding(rt: &impl Print) -> io::Result<()> {
+fn rebuilding(rt: &HostRuntime) -> io::Result<()> {
     row(
         rt,
         "write 80 to disk 1 of 01 02 04, P 07, Q 15",
@@ -143,7 +143,7 @@ fn rebuilding(rt: &impl Print) -> io::Result<()> {
     )
 }
 
-fn checking(rt: &impl Print) -> io::Result<()> {
+fn checking(rt: &HostRuntime) -> io::Result<()> {
     row(
         rt,
         "check 01 03 04, P 07, Q 15",
@@ -177,7 +177,7 @@ fn checking(rt: &impl Print) -> io::Result<()> {
 }
 
 // A stripe is written as its data, then P and Q. Disks 01 02 and 80 04 have P 81 06 and Q 1c 0a.
-fn repairing(rt: &impl Print) -> io::Result<()> {
+fn repairing(rt: &HostRuntime) -> io::Result<()> {
     row(
         rt,
         "repair n=2: 01028004 81061c0a, clean",
@@ -211,7 +211,7 @@ fn repairing(rt: &impl Print) -> io::Result<()> {
 }
 
 // Numbers and length come before the summary: the last three rows have the bytes of the one above.
-fn refusing(rt: &impl Print) -> io::Result<()> {
+fn refusing(rt: &HostRuntime) -> io::Result<()> {
     let beyond = [0x01, 0x02, 0x80, 0x04, 0x80, 0x06, 0x18, 0x0a];
     row(
         rt,
@@ -245,7 +245,7 @@ fn refusing(rt: &impl Print) -> io::Result<()> {
     )
 }
 
-fn judging(rt: &impl Print) -> io::Result<()> {
+fn judging(rt: &HostRuntime) -> io::Result<()> {
     row(
         rt,
         "judge two identities",
@@ -260,7 +260,7 @@ fn judging(rt: &impl Print) -> io::Result<()> {
     )
 }
 
-fn answering(rt: &impl Print) -> io::Result<()> {
+fn answering(rt: &HostRuntime) -> io::Result<()> {
     row(
         rt,
         "job: 13 disks of 4,096",
@@ -470,45 +470,19 @@ impl Display for Shown {
     }
 }
 
-fn row(rt: &impl Print, case: &str, expected: Outcome, got: Outcome) -> io::Result<()> {
+fn row(rt: &HostRuntime, case: &str, expected: Outcome, got: Outcome) -> io::Result<()> {
     let ok = if got == expected { "yes" } else { "NO" };
     line(rt, case, &Shown(expected), &Shown(got), ok)
 }
 
 fn line(
-    rt: &impl Print,
+    rt: &HostRuntime,
     case: &str,
     expected: &impl Display,
     got: &impl Display,
     ok: &str,
 ) -> io::Result<()> {
-    print!(rt; "{case:<47}")?;
-    cell(rt, expected)?;
-    cell(rt, got)?;
-    println!(rt; "{ok}")
-}
-
-// The text, with blanks up to the width of the column.
-fn cell(rt: &impl Print, text: &impl Display) -> io::Result<()> {
-    print!(rt; "{text}")?;
-    for _ in width_of(text)..19 {
-        print!(rt; " ")?;
-    }
-    Ok(())
-}
-
-fn width_of(text: &impl Display) -> usize {
-    let mut width = Width(0);
-    let _ = write!(width, "{text}");
-    width.0
-}
-
-#[derive(Clone, Copy)]
-struct Width(usize);
-
-impl Write for Width {
-    fn write_str(&mut self, s: &str) -> fmt::Result {
-        self.0 = self.0.saturating_add(s.len());
-        Ok(())
-    }
+    let expected = format!(in rt.alloc(); "{expected}")?;
+    let got = format!(in rt.alloc(); "{got}")?;
+    println!(rt; "{case:<47}{expected:<19}{got:<19}{ok}")
 }
