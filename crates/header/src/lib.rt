@@ -154,7 +154,7 @@ fn call_refusal(
 
 // ---- 16-bit fields, high byte first
 
-// One line of std each, this and `byte`, with the definitions' words for what it gives.
+// One line of std, with the word that the definitions have for it.
 pub fn big_endian(value: u16) -> [u8; 2]
     ensures { result ≡ big_endian value }
 {
@@ -179,6 +179,7 @@ pub fn field(bytes: &[u8], at: usize) -> usize
     u16::from_be_bytes([high, low]) as usize
 }
 
+// One line of std, which `element_at` of `verdict` has too.
 fn byte(bytes: &[u8], at: usize) -> u8
     ensures { result ≡ get_or bytes.now at 0 }
 {
