@@ -1,6 +1,6 @@
 // A chunk: WIDTH bytes of a block at once, worked on place by place. A loop over the places has a
-// fixed length, so that it becomes vector code. It goes by the place: of what is written through an
-// `iter_mut` in a `zip`, the proof would know the length alone.
+// fixed length, so that it becomes vector code. One that writes goes by the place: of what is written through
+// an `iter_mut` in a `zip`, the proof would know the length alone.
 #![tactic(auto)]
 
 ghost use Rattle.std.specs.Prelude.{◌≡◌, get_or};
@@ -93,8 +93,8 @@ pub fn are_zero(p: &[u8; WIDTH], q: &[u8; WIDTH]) -> bool
     ensures { result ≡ all_zero p.now q.now }
 {
     let mut r = 0;
-    for j in 0..WIDTH {
-        r = r | p[j] | q[j];
+    for (x, y) in p.iter().zip(q) {
+        r = r | x | y;
     }
     r == 0
 }

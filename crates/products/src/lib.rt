@@ -35,7 +35,7 @@ pub fn combine(a: Element, p: [u8; WIDTH], b: Element, q: [u8; WIDTH]) -> [u8; W
     d
 }
 
-// 02 d, and x where the lowest bit of m is one, and y where that of n is.
+// 02 d, and x where the lowest bit of m is one, and y where that of n is. It goes by the place, as the loops of `chunk` that write.
 fn add_bits(d: &mut [u8; WIDTH], m: u8, x: &[u8; WIDTH], n: u8, y: &[u8; WIDTH])
     ensures { d.new ≡ each (λ j. plus_bit (plus_bit (double (get_or d.old j 0)) m (get_or x.now j 0)) n (get_or y.now j 0)) }
 {

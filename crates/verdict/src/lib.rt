@@ -149,13 +149,13 @@ fn ratio(both: u16) -> Element {
 // becomes vector code.
 fn largest_pair(sums: &Sums) -> u16 {
     let mut largest = 0;
-    for j in 0..WIDTH {
-        largest = largest.max(u16::from_be_bytes([sums.p[j], sums.q[j]]));
+    for (x, y) in sums.p.iter().zip(&sums.q) {
+        largest = largest.max(u16::from_be_bytes([*x, *y]));
     }
     largest
 }
 
-// v where P* and Q* are not both 00, and 0 elsewhere.
+// v where P* and Q* are not both 00, and 0 elsewhere. This loop and the next go by the place, as those of `chunk` that write.
 fn fill_unclean(sums: &Sums, v: u16, room: &mut [u16])
     requires { length room.old ≡ width }
     ensures { room.new ≡ each (unclean v sums.now.p sums.now.q) }
