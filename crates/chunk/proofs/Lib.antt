@@ -1,3 +1,4 @@
+pub mod Bytes
 pub mod Copied
 pub mod Zeros
 pub mod Laws

@@ -1,4 +1,3 @@
-mod Bytes
 mod Horner
 mod Zeros
 mod Runs

@@ -3,12 +3,11 @@ use mathlib.Core.Path.{◌≡◌, refl, sym, ap, ap₂, ◌∙◌}
 use mathlib.Core.List.{List}
 use Prim.Native.Nat.{ℕ, ◌+◌, ◌-◌, ◌/◌, ◌%◌, ◌^◌}
 use native.Mathlib.Omega.{arith}
-use mir.Syntax.{w8}
-use borrow.Author.Rules.{elem_Fits}
 use lib.ListN.{length, get_or, get_or-replicate}
 use Rattle.base.proofs.Table.{length_tabulate, get_d_tabulate, is_tabulate}
 use Rattle.gf256.specs.Field.{sum, double, product}
 use Rattle.chunk.specs.Chunk.{width}
+use Rattle.chunk.proofs.Bytes.{bytes}
 use Rattle.products.specs.Products.{plus_bit}
 use Rattle.products.proofs.Digits.{plus_bit_lem, combined_none, combined_more}
 use Rattle.products.proofs.combine.Goals as goal
@@ -29,8 +28,8 @@ loop-k-preserved c =
           let y = get_or c.args.q j 0 in
           ap (λ (l : List ℕ). get_or l j 0) c.add_bits.ensures
           ∙ get_d_tabulate width _ j 0 h
-          ∙ plus_bit_lem (plus_bit (double (get_or l.d j 0)) (a / 2 ^ k) x) (b / 2 ^ k) y ((let x = c.well_formed.1.1.1.0 in (elem_Fits w8 w8 c.args.q x.0 j x.1.1 tt).fits))
-          ∙ ap (λ (v : ℕ). sum v (product (b / 2 ^ k % 2) y)) (plus_bit_lem (double (get_or l.d j 0)) (a / 2 ^ k) x ((let x = c.well_formed.1.0 in (elem_Fits w8 w8 c.args.p x.0 j x.1.1 tt).fits)))
+          ∙ plus_bit_lem (plus_bit (double (get_or l.d j 0)) (a / 2 ^ k) x) (b / 2 ^ k) y (let v = c.well_formed.1.1.1.0 in bytes c.args.q v.0 v.1.1 j)
+          ∙ ap (λ (v : ℕ). sum v (product (b / 2 ^ k % 2) y)) (plus_bit_lem (double (get_or l.d j 0)) (a / 2 ^ k) x (let v = c.well_formed.1.0 in bytes c.args.p v.0 v.1.1 j))
           ∙ combined_more a b x y k (omega arith) (omega arith) (l.invariant.1 j h ∙ ap (λ (m : ℕ). sum (product (a / 2 ^ m) x) (product (b / 2 ^ m) y)) next),
     )
 

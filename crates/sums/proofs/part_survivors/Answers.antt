@@ -5,7 +5,7 @@ use Rattle.losses.specs.Losses.{without}
 use Rattle.stretch.specs.Stretch.{column_of}
 use Rattle.sums.proofs.Horner.{tails_none, tails_more, tails_stored}
 use Rattle.sums.proofs.Zeros.{no_sums}
-use Rattle.sums.proofs.Bytes.{bytes}
+use Rattle.chunk.proofs.Bytes.{bytes}
 use Rattle.sums.proofs.part_survivors.Goals as goal
 
 pub returns-then-not-is_in : goal.returns-then-not-is_in

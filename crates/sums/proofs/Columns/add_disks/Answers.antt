@@ -2,7 +2,7 @@
 use Prim.Native.Nat.{◌-◌}
 use native.Mathlib.Omega.{arith}
 use Rattle.sums.proofs.Runs.{placed, inside, below, disk_added}
-use Rattle.sums.proofs.Bytes.{bytes}
+use Rattle.chunk.proofs.Bytes.{bytes}
 use Rattle.sums.proofs.Columns.add_disks.Goals as goal
 
 pub overflow_add-at : goal.overflow_add-at

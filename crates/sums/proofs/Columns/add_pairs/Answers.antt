@@ -11,7 +11,7 @@ use Rattle.std.proofs.Common.{◌≡◌, ℕ, ◌+◌, ◌-◌, ◌<◌, ◌≤�
 use Rattle.chunk.specs.Chunk.{width}
 use Rattle.sums.specs.Sums.{Tails}
 use Rattle.sums.proofs.Runs.{placed, inside, below, disk_added}
-use Rattle.sums.proofs.Bytes.{bytes}
+use Rattle.chunk.proofs.Bytes.{bytes}
 use Rattle.sums.proofs.Columns.add_pairs.Goals as goal
 
 -- where the next two disks below disk k have the columns, and that they lie within the stripe

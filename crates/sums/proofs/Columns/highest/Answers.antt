@@ -1,5 +1,5 @@
 -- `sums::Columns::highest` meets its contract.
-use Rattle.sums.proofs.Bytes.{bytes}
+use Rattle.chunk.proofs.Bytes.{bytes}
 use Rattle.sums.proofs.Runs.{highest_added}
 use Rattle.sums.proofs.Columns.highest.Goals as goal
 
