@@ -26,7 +26,7 @@ use Rattle.shape.proofs.Refused.{well_shaped}
 use Rattle.shape.proofs.Columns.{shaped_same, columns_as, columns_count, columns_then}
 use Rattle.shape.proofs.Places.{start_mono, start_end}
 use Rattle.shape.proofs.Stretch.{block_start, stretch_inside, columns_set}
-use Rattle.stretch.specs.Stretch.{has_columns, Has, column_of, has_stretch, set_on}
+use Rattle.stretch.specs.Stretch.{has_columns, Has, column_of, has_stretch, set_on, PlacedAt}
 
 -- ---- a part of a list that is lent from a place on
 module _ (s : List ℕ) (at w : ℕ) (ends : at + w ≤ length s) where
@@ -119,16 +119,8 @@ module _ {g : Geometry} {s : List ℕ} {i w : ℕ} (h : Has g s i w) where
     pub ends : p + i + w ≤ length s
     ends = omega (arith, begins, stretch_inside g s role i w h.shaped known h.fits)
 
-    pub loaded_there : each (λ j. get_or (take (p + i + w - (p + i)) (drop (p + i) s)) j 0) ≡ each (λ j. column_of g s i w j role)
-    unfolding column_of
-    loaded_there = part_loaded s (p + i) w ends ∙ tabulate_same width (λ j l. rw (has_true g s i w h) (ap (λ (a : ℕ). choose (ltb j w) (get_or s a 0) 0) (omega (arith, begins))))
-
-    pub set_there : (new : List ℕ) {m rest : List ℕ} → m ≡ stored (take (p + i + w - (p + i)) (drop (p + i) s)) new → rest ≡ drop (p + i + w) s
-        → take (p + i) s ++ (m ++ rest) ≡ set_on g role i w new s
-    set_there new is_m after =
-        part_stored s (p + i) w ends h.held new is_m after
-        ∙ ap (λ (a : ℕ). spliced s (a + i) (tabulate w (λ j. get_or new j 0))) begins
-        ∙ sym (rw (stretch_true known))
+    pub there : PlacedAt g s role i w (p + i)
+    there = record { has = h; known = known; is = omega (arith, begins); ends = ends }
 
   -- setting a role changes these columns alone
   pub set_columns : {role : ℕ} → role < g.n + 2 → (new : List ℕ) {t : List ℕ} → t ≡ set_on g role i w new s
@@ -140,6 +132,19 @@ module _ {g : Geometry} {s : List ℕ} {i w : ℕ} (h : Has g s i w) where
       (columns_as (columns_count long (columns_set g s role i m h.shaped known (omega (arith, h.fits, long))))
       (λ j p. ap (λ (x : ℕ). put role x (column g s (i + j))) (get_d_tabulate w (λ j. get_or new j 0) j 0 p)))
 
+-- a part that begins at its place
+module _ {g : Geometry} {s : List ℕ} {role i w at : ℕ} (here : PlacedAt g s role i w at) where
+  pub loaded_there : each (λ j. get_or (take (at + w - at) (drop at s)) j 0) ≡ each (λ j. column_of g s i w j role)
+  unfolding column_of
+  loaded_there = part_loaded s at w here.ends ∙ tabulate_same width (λ j l. rw (has_true g s i w here.has) (ap (λ (a : ℕ). choose (ltb j w) (get_or s a 0) 0) (omega (arith, here.is))))
+
+  pub set_there : (new : List ℕ) {m rest : List ℕ} → m ≡ stored (take (at + w - at) (drop at s)) new → rest ≡ drop (at + w) s
+      → take at s ++ (m ++ rest) ≡ set_on g role i w new s
+  set_there new is_m after =
+      part_stored s at w here.ends here.has.held new is_m after
+      ∙ ap (λ (a : ℕ). spliced s a (tabulate w (λ j. get_or new j 0))) here.is
+      ∙ sym (rw (stretch_true here.has here.known))
+
 -- two roles set, y first
 pub set_two : {g : Geometry} {s : List ℕ} {i w x y : ℕ} (h : Has g s i w) (new second : List ℕ) {t u : List ℕ} → x < g.n + 2 → y < g.n + 2 → t ≡ set_on g y i w second s
     → u ≡ set_on g x i w new t
@@ -150,14 +155,11 @@ set_two h new second known_x known_y is_t is_u =
 
 -- what `has_stretch` tells
 module _ (g : Geometry) (s : List ℕ) (role i w : ℕ) where
-  pub stretch : has_stretch g (length s) role i w ≡ true → Has g s i w × (role < g.n + 2)
-  stretch e =
-      let parts = both_true (has_columns g (length s) i w) (ltb role (g.n + 2)) e in
-      (has g s i w parts.0, ltb-true role (g.n + 2) parts.1)
-
-  -- its bytes lie in the buffer
-  pub stretch_ends : has_stretch g (length s) role i w ≡ true → {p : ℕ} → p ≡ low_start g role → p + i + w ≤ length s
-  stretch_ends e is = let h = stretch e in ends h.0 h.1 is
+  -- where the bytes of a role begin that it has there
+  pub placed : {on : Bool} → on ≡ has_stretch g (length s) role i w → on ≡ true → {p : ℕ} → p ≡ low_start g role → PlacedAt g s role i w (p + i)
+  placed is_on e is =
+      let parts = both_true (has_columns g (length s) i w) (ltb role (g.n + 2)) (sym is_on ∙ e) in
+      there (has g s i w parts.0) (ltb-true role (g.n + 2) parts.1) is
 
   pub no_stretch : has_stretch g (length s) role i w ≡ false → replicate width 0 ≡ each (λ j. column_of g s i w j role)
   no_stretch = go (has_columns g (length s) i w) refl

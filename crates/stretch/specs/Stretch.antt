@@ -1,5 +1,5 @@
 -- A stretch of columns, for any numbers: what stands there, and the stripe once the bytes of one role there are set.
-use Rattle.std.specs.Prelude.{ℕ, ◌+◌, ◌-◌, ◌≤◌, Bool, List, eqb, ltb, leb, length, get_or}
+use Rattle.std.specs.Prelude.{ℕ, ◌≡◌, ◌+◌, ◌-◌, ◌≤◌, ◌<◌, Bool, List, eqb, ltb, leb, length, get_or}
 use Rattle.base.specs.Choice.{choose, both}
 use Rattle.base.specs.Table.{tabulate, spliced}
 use Rattle.chunk.specs.Chunk.{width}
@@ -30,3 +30,10 @@ has_stretch g len role i w = both (has_columns g len i w) (ltb role (g.n + 2))
 abbrev pub set_on : Geometry → ℕ → ℕ → ℕ → List ℕ → List ℕ → List ℕ
 set_on g role i w new s =
     choose (has_stretch g (length s) role i w) (spliced s (start g role + i) (tabulate w (λ j. get_or new j 0))) s
+
+-- the bytes of a role in these columns begin at this place of the buffer: what private functions give
+pub record PlacedAt (g : Geometry) (s : List ℕ) (role i w at : ℕ) : Type 0 where
+  pub has : Has g s i w
+  pub known : role < g.n + 2
+  pub is : at ≡ start g role + i
+  pub ends : at + w ≤ length s

@@ -4,9 +4,9 @@
 // a `&mut [u8]` would owe, in each function that sets bytes, that the geometry and the borrow are the same after it.
 #![tactic(auto)]
 
-ghost use Rattle.std.specs.Prelude.{◌≡◌, ◌+◌, ◌-◌, min, ltb};
+ghost use Rattle.std.specs.Prelude.{false, ◌≡◌, ◌+◌, ◌-◌, min, ltb, length, MatchOption};
 ghost use Rattle.chunk.specs.Chunk.{each};
-ghost use Rattle.stretch.specs.Stretch.{has_columns, column_of, has_stretch, set_on};
+ghost use Rattle.stretch.specs.Stretch.{has_columns, column_of, has_stretch, set_on, PlacedAt};
 
 use chunk::WIDTH;
 use shape::Geometry;
@@ -46,22 +46,29 @@ impl Stretch {
     pub fn load(self, stripe: &[u8], role: usize) -> [u8; WIDTH]
         ensures { result ≡ each (λ j. column_of self.g stripe.now self.i self.w j role) }
     {
-        if !self.is_on(stripe.len(), role) {
-            return [0u8; WIDTH];
+        match self.place(stripe, role) {
+            Some(at) => chunk::load(&stripe[at..at + self.w]),
+            None => [0u8; WIDTH],
         }
-        let at = self.g.start(role) + self.i;
-        chunk::load(&stripe[at..at + self.w])
     }
 
     // Sets them, if the stripe has them. Only the stretch is lent on, so that nothing around it can change.
     pub fn set(self, stripe: &mut [u8], role: usize, new: [u8; WIDTH])
         ensures { stripe.new ≡ set_on self.g role self.i self.w new stripe.old }
     {
-        if !self.is_on(stripe.len(), role) {
-            return;
+        if let Some(at) = self.place(stripe, role) {
+            chunk::store(&mut stripe[at..at + self.w], new);
         }
-        let at = self.g.start(role) + self.i;
-        chunk::store(&mut stripe[at..at + self.w], new);
+    }
+
+    // Where the bytes of a role in these columns begin, if the stripe has them.
+    fn place(self, stripe: &[u8], role: usize) -> Option<usize>
+        ensures { MatchOption result (has_stretch self.g (length stripe.now) role self.i self.w ≡ false) (PlacedAt self.g stripe.now role self.i self.w) }
+    {
+        if !self.is_on(stripe.len(), role) {
+            return None;
+        }
+        Some(self.g.start(role) + self.i)
     }
 
     fn is_on(self, len: usize, role: usize) -> bool

@@ -8,7 +8,7 @@ ghost use Rattle.losses.specs.Losses.{without, by_p};
 ghost use Rattle.shape.specs.Refusals.{WellShaped};
 ghost use Rattle.shape.specs.Columns.{ColumnsMapped};
 ghost use Rattle.column.specs.Column.{put, encode_column, reed_solomon};
-ghost use Rattle.stretch.specs.Stretch.{Has, column_of, set_on};
+ghost use Rattle.stretch.specs.Stretch.{Has, PlacedAt, column_of, set_on};
 ghost use Rattle.sums.specs.Sums.{parities_of, sums_of, Tails, HighestAdded, StoredAdded, DisksAdded, AddedAbove};
 ghost use Rattle.sums.specs.Strip.{in_strips, has_strip, HasStrip, over_strip, StripSummed, staged, outside, plain_group, GroupAdded, AddedWithin};
 ghost use Rattle.sums.specs.Passes.{page, in_passes, parities_set, Passed};
@@ -193,7 +193,7 @@ impl Columns<'_> {
         requires { role < self.g.n + 2 }
         ensures { result ≡ each (λ j. column_of self.entry.g self.entry.stripe.now self.entry.i width j role) }
     {
-        self.load(self.g.start(role) + self.i)
+        self.load(place(self.g, self.stripe, role, self.i))
     }
 
     // All disks. It is compiled into each caller, as one that is called for each chunk.
@@ -461,6 +461,14 @@ fn set_chunk(g: Geometry, stripe: &mut [u8], role: usize, i: usize, new: [u8; WI
     requires { Has g stripe.old i width × (role < g.n + 2) }
     ensures { stripe.new ≡ set_on g role i width new stripe.old }
 {
-    let at = g.start(role) + i;
+    let at = place(g, stripe, role, i);
     chunk::store(&mut stripe[at..at + WIDTH], new);
+}
+
+// Where the columns from i on begin in the block of a role.
+fn place(g: Geometry, stripe: &[u8], role: usize, i: usize) -> usize
+    requires { Has g stripe.now i width × (role < g.n + 2) }
+    ensures { PlacedAt g stripe.now role i width result }
+{
+    g.start(role) + i
 }
