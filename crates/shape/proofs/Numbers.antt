@@ -1,7 +1,8 @@
--- No refusal has the number of a call that is done: a call is refused just where its number isn't 0.
+-- No refusal has the number of a call that is done: a call is refused just where its number isn't 0. And what a `?` returns is the refusal that
+-- it meets.
 -- Assumes nothing.
-use Rattle.std.proofs.Common.{◌≡◌, ◌≢◌, true≢false, sym, refl, arith}
-use Rattle.std.specs.Prelude.{false, true, Result, Ok, Err, is_err}
+use Rattle.std.proofs.Common.{◌≡◌, ◌≢◌, true≢false, sym, ap, refl, arith}
+use Rattle.std.specs.Prelude.{false, true, Result, Ok, Err, is_err, IsErrAnd}
 use Rattle.shape.specs.declared.Refusal.{Refusal}
 use Rattle.shape.specs.declared.Refusal.TheVariants.{Disks, BlockSize, Length, Device, SameDevice, Stretch, Room, Unclear}
 use Rattle.shape.specs.Number.{number_of, number}
@@ -23,3 +24,7 @@ number_done (Err refusal) e = absurd (true≢false e)
 pub number_refused : (r : Result Unit Refusal) → is_err r ≡ true → number r ≢ 0
 number_refused (Ok done) e = absurd (true≢false (sym e))
 number_refused (Err refusal) e = refusal_number refusal
+
+pub refused_with : {T : Type 0} {refusal : Refusal} (r : Result T Refusal) → IsErrAnd r (λ met. met ≡ refusal) → r ≡ Err refusal
+refused_with (Ok value) h = absurd h
+refused_with (Err met) h = ap Err h

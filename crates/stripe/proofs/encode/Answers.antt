@@ -1,9 +1,8 @@
 -- `stripe::encode` meets its contract: its refusal, then P and Q from the data.
 use Rattle.std.proofs.Common.{true, refl, sym, ◌∙◌}
-use Rattle.std.proofs.lemmas.Result.{err_from_is_err_and}
 use Rattle.base.proofs.Refused.{leaves_alone, leaves_done}
 use Rattle.losses.specs.declared.Plan.TheVariants.{FromData}
-use Rattle.shape.proofs.Numbers.{refusal_number}
+use Rattle.shape.proofs.Numbers.{refusal_number, refused_with}
 use Rattle.shape.proofs.Refused.{well_shaped}
 use Rattle.restore.proofs.Laws.{restored_is}
 use Rattle.stripe.specs.Stripe.{encoded}
@@ -15,8 +14,7 @@ unfolding after_encode
 returns-in_err-encode_refusal c =
     let s = c.args.stripe.now in
     let refused = c.in_err-encode_refusal.ensures in
-    let p = err_from_is_err_and c.from_residual.result c.from_residual.ensures.1 in
-    rw (p.1, p.2) record { result = refused; stripe = leaves_alone (encoded c.args.g s) s refused (refusal_number c.in_err-encode_refusal.field-0.0) }
+    rw (refused_with _ c.from_residual.ensures.1) record { result = refused; stripe = leaves_alone (encoded c.args.g s) s refused (refusal_number c.in_err-encode_refusal.field-0.0) }
 
 pub returns : goal.returns
 unfolding after_encode

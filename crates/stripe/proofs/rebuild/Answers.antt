@@ -1,10 +1,10 @@
 -- `stripe::rebuild` meets its contract: its refusal, or the plan of the loss, which is the table's row.
 use Rattle.std.proofs.Common.{length, refl, sym, ap, ◌∙◌}
-use Rattle.std.proofs.lemmas.Result.{err_from_is_err_and}
 use Rattle.base.proofs.Refused.{leaves_alone, leaves_done}
 use Rattle.losses.specs.declared.Plan.{Plan}
 use Rattle.plans.specs.Plans.{plan_of}
 use Rattle.plans.proofs.Planned.{planned, plan_known, asked_refused, asked_plan}
+use Rattle.shape.proofs.Numbers.{refused_with}
 use Rattle.shape.proofs.Places.{lift_same}
 use Rattle.shape.proofs.Refused.{well_shaped}
 use Rattle.devices.proofs.Refused.{rebuild_accepted}
@@ -19,8 +19,7 @@ unfolding after_rebuild
 returns-in_err-plan c =
     let a = c.args in
     let told = asked_refused a.g (length a.stripe.now) a.lost (sym c.in_err-plan.ensures) in
-    let p = err_from_is_err_and c.from_residual.result c.from_residual.ensures.1 in
-    rw (p.1, p.2) record { result = told.0; stripe = leaves_alone (rebuilt a.g a.lost a.stripe.now) a.stripe.now told.0 told.1 }
+    rw (refused_with _ c.from_residual.ensures.1) record { result = told.0; stripe = leaves_alone (rebuilt a.g a.lost a.stripe.now) a.stripe.now told.0 told.1 }
 
 pub returns : goal.returns
 unfolding after_rebuild

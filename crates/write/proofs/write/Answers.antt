@@ -1,8 +1,7 @@
 -- `write::write` meets its contract: its refusal, then the stretch.
 use Rattle.std.proofs.Common.{length, refl, sym, arith}
-use Rattle.std.proofs.lemmas.Result.{err_from_is_err_and}
 use Rattle.base.proofs.Refused.{leaves_alone, leaves_done}
-use Rattle.shape.proofs.Numbers.{refusal_number}
+use Rattle.shape.proofs.Numbers.{refusal_number, refused_with}
 use Rattle.shape.proofs.Refused.{well_shaped, write_accepted}
 use Rattle.write.specs.Write.{written, after_write}
 use Rattle.write.proofs.Written.{stretch_lift}
@@ -13,8 +12,7 @@ unfolding after_write
 returns-in_err-write_refusal c =
     let a = c.args in
     let refused = c.in_err-write_refusal.ensures in
-    let p = err_from_is_err_and c.from_residual.result c.from_residual.ensures.1 in
-    rw (p.1, p.2) record { result = refused; stripe = leaves_alone (written a.g a.disk a.offset a.new.now a.stripe.now) a.stripe.now refused (refusal_number c.in_err-write_refusal.field-0.0) }
+    rw (refused_with _ c.from_residual.ensures.1) record { result = refused; stripe = leaves_alone (written a.g a.disk a.offset a.new.now a.stripe.now) a.stripe.now refused (refusal_number c.in_err-write_refusal.field-0.0) }
 
 pub returns : goal.returns
 unfolding after_write
