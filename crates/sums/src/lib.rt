@@ -42,6 +42,7 @@ const SIDE_BY_SIDE: usize = 6;
 const PASS: usize = 5;
 
 // P and Q of each column of a chunk, as the data give them.
+#[tactic(auto, using(crate::proofs::Zeros::no_parities))]
 pub fn parities(g: Geometry, stripe: &[u8], i: usize) -> Sums
     ensures { result ≡ parities_of g.n (column_of g stripe.now i width) }
 {
@@ -53,6 +54,7 @@ pub fn parities(g: Geometry, stripe: &[u8], i: usize) -> Sums
 }
 
 // P* and Q* of each column of a chunk: the parities that the data give, and the stored ones added, none of which is lost.
+#[tactic(auto, using(crate::proofs::Zeros::no_syndromes))]
 pub fn syndromes(g: Geometry, stripe: &[u8], i: usize) -> Sums
     ensures { result ≡ sums_of g.n (column_of g stripe.now i width) }
 {

@@ -1,13 +1,9 @@
 -- `sums::syndromes` meets its contract: all disks, and the stored parities.
-use mathlib.Core.Path.{sym, ap, ◌∙◌}
+use mathlib.Core.Path.{ap, ◌∙◌}
 use Rattle.chunk.specs.Chunk.{width, plus}
 use Rattle.stretch.specs.Stretch.{column_of}
 use Rattle.sums.proofs.Horner.{tails_stored}
-use Rattle.sums.proofs.Zeros.{no_syndromes}
 use Rattle.sums.proofs.syndromes.Goals as goal
-
-pub returns-then-not-is_in : goal.returns-then-not-is_in
-returns-then-not-is_in c = let a = c.args in no_syndromes a.g a.stripe.now a.i width (sym c.is_in.ensures ∙ c.if-not-is_in.true) a.g.n
 
 pub returns : goal.returns
 returns c =
