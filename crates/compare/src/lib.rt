@@ -156,7 +156,7 @@ impl Stripe<'_> {
     }
 
     // The same of fewer columns. The functions of a whole chunk know its width, and these do not. A part without differences is told
-    // by one test here too: a second caller of `verdicts_of` would set it apart from the loop over the chunks.
+    // by one test here too: a second caller of `verdicts_of` would set it apart from the loop over the chunks (docs/DECISIONS.md).
     fn check_part(self, i: usize, room: &mut [u16]) -> u16
         requires { (i + length room.old ≤ self.g.b) × (length room.old ≤ width) }
         ensures { WithSummary (verdicts_from self.entry.g self.entry.bytes.now i (length room.old)) result room.new }

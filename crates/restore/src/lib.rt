@@ -1,5 +1,6 @@
 // What was lost, restored by a plan: in each column the bytes of the lost roles from the others. The
-// columns are worked on in chunks.
+// columns are worked on in chunks. That a stripe has the roles of a plan stays a premise of the private functions: it speaks of two
+// values, the plan and the number of disks, and a type of both would be made for one call.
 #![tactic(auto)]
 
 ghost use Rattle.std.specs.Prelude.{◌≡◌, ℕ, ◌+◌, ◌≤◌, ◌<◌};
@@ -222,7 +223,7 @@ impl Step for ByBoth {
     ghost some = { Prim.search rules };
 }
 
-// The same of a strip, from the sums of its chunks.
+// The same of a strip, which is a type of its own since a step's columns are its type's, from the sums of its chunks.
 #[derive(Clone, Copy)]
 struct StripByBoth {
     pair: Pair,

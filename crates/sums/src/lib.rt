@@ -356,7 +356,7 @@ fn add_stored(at: Stretch, stripe: &[u8], pair: Pair, sums: &mut Sums)
     chunk::add(&mut sums.q, &d);
 }
 
-// 00 where the role is lost.
+// 00 where the role is lost. Here and above `at` and `stripe` stay two parameters, as in the public functions that give them.
 fn load_but(at: Stretch, stripe: &[u8], role: usize, pair: Pair) -> [u8; WIDTH]
     ensures { result ≡ each (λ j. without pair.x pair.y (column_of at.g stripe.now at.i at.w j) role) }
 {
