@@ -34,7 +34,7 @@ impl From<Fault> for u8 {
 
 // The first test that a line fails, if it fails one. The serials of the lines before it are lent.
 #[tactic(auto, using(crate::proofs::Lines::any_bad), unfolding(crate::specs::Faults::line_number))]
-pub fn judge(before: &Serials<'_>, serial: &[u8], ended: bool) -> Result<(), Fault>
+pub fn judge(before: &Serials<'_, '_>, serial: &[u8], ended: bool) -> Result<(), Fault>
     ensures { judged_number result ≡ line_number before.now serial.now ended }
 {
     if has_bad(serial) {

@@ -74,7 +74,7 @@ fn line_length(text: &[u8]) -> usize
 
 // Writes the text of any serials at the start of the output, whose other bytes stay, and answers the text's length;
 // where it is refused, all do.
-pub fn write(lent: &Serials<'_>, out: &mut [u8]) -> Result<usize, WriteError>
+pub fn write(lent: &Serials<'_, '_>, out: &mut [u8]) -> Result<usize, WriteError>
     ensures { WriteCall lent.now out.old result out.new }
 {
     let length = judge_all(lent)?;
@@ -86,7 +86,7 @@ pub fn write(lent: &Serials<'_>, out: &mut [u8]) -> Result<usize, WriteError>
 }
 
 // The first fault of serials to be written, or the length of their text.
-fn judge_all(lent: &Serials<'_>) -> Result<usize, FaultyLine>
+fn judge_all(lent: &Serials<'_, '_>) -> Result<usize, FaultyLine>
     ensures { read_of result ≡ judge_answer lent.now }
 {
     let mut length = 0;
@@ -100,7 +100,7 @@ fn judge_all(lent: &Serials<'_>) -> Result<usize, FaultyLine>
     Ok(length)
 }
 
-fn put_all(lent: &Serials<'_>, out: &mut [u8])
+fn put_all(lent: &Serials<'_, '_>, out: &mut [u8])
     requires { length (roster_text lent.now) ≤ length out.old }
     ensures { out.new ≡ begun_with (roster_text lent.now) out.old }
 {

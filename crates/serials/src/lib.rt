@@ -8,20 +8,20 @@ ghost use Rattle.serials.specs.LookUp.{look_up};
 use std::marker::Model;
 
 // Serials as they are lent: bytes and the place where each serial ends. The next begins one byte after it. Any bytes
-// with any places are some serials. Contracts see the list of the serials.
+// with any places are some serials. Contracts see the list of the serials. A serial is lent as long as the bytes are.
 #[derive(Drop)]
-pub struct Serials<'a> {
+pub struct Serials<'a, 'b> {
     pub chars: &'a [u8],
-    pub ends: &'a [usize],
+    pub ends: &'b [usize],
 }
 
-impl<'a> Model for Serials<'a> {
+impl<'a, 'b> Model for Serials<'a, 'b> {
     ghost Value = { List (List ℕ) };
 
     ghost view = { λ s. serials s.chars.now s.ends.now };
 }
 
-impl<'a> Serials<'a> {
+impl<'a> Serials<'a, '_> {
     pub fn len(&self) -> usize
         ensures { result ≡ length self.now }
     {
