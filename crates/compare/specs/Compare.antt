@@ -4,6 +4,7 @@ use Rattle.base.specs.Choice.{choose}
 use Rattle.base.specs.Refusal.{unless_refused}
 use Rattle.base.specs.Table.{tabulate}
 use Rattle.column.specs.Column.{verdict}
+use Rattle.losses.specs.declared.Pair.{Pair}
 use Rattle.shape.specs.declared.Geometry.{Geometry}
 use Rattle.shape.specs.Layout.{column}
 use Rattle.shape.specs.Refusals.{encode_refusal, check_refusal}
@@ -34,6 +35,10 @@ pub record CompareCall (g : Geometry) (s before : List ℕ) (r : ℕ) (after : L
 -- the verdicts on k columns from column i on
 abbrev pub verdicts_from : Geometry → List ℕ → ℕ → ℕ → List ℕ
 verdicts_from g s i k = tabulate k (λ j. verdict g.n (column g s (i + j)))
+
+-- two roles that a stripe with n data disks has not
+abbrev pub beyond : ℕ → Pair
+beyond n = record { x = n + 2; y = n + 2 }
 
 -- the room has a place for each verdict, if they are kept, and else for those of a stretch
 pub record RoomFor (g : Geometry) (keep : Bool) (room : List ℕ) : Type 0 where

@@ -9,7 +9,7 @@ ghost use Rattle.shape.specs.Number.{number};
 ghost use Rattle.shape.specs.Refusals.{WellShaped};
 ghost use Rattle.sums.specs.Strip.{strip};
 ghost use Rattle.verdict.specs.Summary.{WithSummary};
-ghost use Rattle.compare.specs.Compare.{summary_of, CompareCall, verdicts_from, RoomFor, CheckedInto};
+ghost use Rattle.compare.specs.Compare.{summary_of, CompareCall, verdicts_from, beyond, RoomFor, CheckedInto};
 ghost use Rattle.compare.specs.Repair.{unclear, repair_refusal};
 
 use chunk::{Sums, WIDTH};
@@ -89,6 +89,14 @@ impl Stripe<'_> {
         }
     }
 
+    // Two roles that the stripe has not, so that none is lost.
+    fn beyond(self) -> Pair
+        ensures { result ≡ beyond self.entry.g.n }
+    {
+        let role = self.g.n + 2;
+        Pair { x: role, y: role }
+    }
+
     // By whole strips, of which the last may take columns again: their verdicts are the same.
     fn check_strips(self, room: &mut [u16], keep: bool) -> u16
         requires { (strip ≤ self.g.b) × RoomFor self.g keep room.old }
@@ -108,12 +116,8 @@ impl Stripe<'_> {
         ensures { WithSummary (verdicts_from self.entry.g self.entry.bytes.now i (length room.old)) result room.new }
     {
         let g = self.g;
-        let none = Pair {
-            x: g.n + 2,
-            y: g.n + 2,
-        };
         let mut strip = [Sums::ZERO; CHUNKS];
-        sums::strip_survivors(g, self.bytes, i, none, &mut strip);
+        sums::strip_survivors(g, self.bytes, i, self.beyond(), &mut strip);
         let mut found = 0;
         for m in 0..CHUNKS {
             let c = WIDTH * m;
@@ -162,16 +166,12 @@ impl Stripe<'_> {
         ensures { WithSummary (verdicts_from self.entry.g self.entry.bytes.now i (length room.old)) result room.new }
     {
         let g = self.g;
-        let none = Pair {
-            x: g.n + 2,
-            y: g.n + 2,
-        };
         let at = Stretch {
             g,
             i,
             w: room.len(),
         };
-        let s = sums::part_survivors(at, self.bytes, none);
+        let s = sums::part_survivors(at, self.bytes, self.beyond());
         if chunk::are_zero(&s.p, &s.q) {
             room.fill(0);
             return 0;

@@ -11,10 +11,10 @@ returns-then-are_zero c =
     let a = c.args in
     let r = c.part_survivors-s.result in
     let k = length a.room.now in
-    summary_as (verdicts_summed a.i k a.self.shaped c.requires c.part_survivors-s.ensures)
+    summary_as (verdicts_summed a.i k a.self.shaped c.requires (rw c.beyond.ensures at c.part_survivors-s.ensures))
     (zeros_told a.self.g.n r.p r.q k c.requires.1 (sym c.are_zero.ensures ∙ c.if-are_zero.true) c.fill.ensures.len (c.fill.ensures.after (λ y e. e)))
 
 pub returns : goal.returns
 returns c =
     let a = c.args in
-    summary_as (verdicts_summed a.i (length a.room.now) a.self.shaped c.requires c.part_survivors-s.ensures) c.verdicts_by_place.ensures
+    summary_as (verdicts_summed a.i (length a.room.now) a.self.shaped c.requires (rw c.beyond.ensures at c.part_survivors-s.ensures)) c.verdicts_by_place.ensures

@@ -35,7 +35,7 @@ loop-m-preserved c =
     let next : k + width ≡ width * (l.m + 1) = omega arith in
     let size : length (take (k + width - k) (drop k l.room)) ≡ width = part_length l.room k (k + width) (omega arith) (omega (arith, fits, l.invariant.filled.long)) ∙ omega arith in
     let r = get_or c.strip_survivors.new.strip l.m none in
-    let sums = chunk_summed h (n + 2) (n + 2) _ c.strip_survivors.ensures l.m c.loop-m-test.true in
+    let sums = chunk_summed h (n + 2) (n + 2) _ (rw c.beyond.ensures at c.strip_survivors.ensures) l.m c.loop-m-test.true in
     let told : verdicts_of n r.p r.q (length (take (k + width - k) (drop k l.room))) ≡ tabulate width (λ j. f (k + j)) =
     ap (verdicts_of n r.p r.q) size
     ∙ verdicts_summed (a.i + k) width s.shaped (omega (arith, fits, c.requires.0), le_refl width) sums
