@@ -1,3 +1,4 @@
+pub mod Arms
 pub mod Check
 pub mod Xor
 pub mod Additive

@@ -4,7 +4,7 @@
 use mathlib.Core.Path.{◌≡◌, ap, ap₂, fun_ext, ◌∙◌}
 use mathlib.Core.Bool.{true}
 use mathlib.Core.List.{List, [], map}
-use Prim.Native.Nat.{ℕ, ◌+◌, ◌-◌, ◌≤◌, ◌<◌}
+use Prim.Native.Nat.{ℕ, ◌+◌, ◌*◌, ◌-◌, ◌≤◌, ◌<◌}
 use native.Mathlib.Omega.{arith}
 use borrow.Author.Count.{below_more}
 use borrow.Author.Tests.{eqb-true, leb-true, ne_eqb, le-leb}
@@ -14,14 +14,18 @@ use lib.Seq.{get_or-set_same, get_or-set_other}
 use Rattle.std.specs.List.{range_with_len}
 use Rattle.std.proofs.lemmas.List.FromFn.{get_or-map-range_with_len}
 use Rattle.base.proofs.Choice.{both_true}
-use Rattle.chunk.specs.Chunk.{width}
+use Rattle.chunk.specs.Chunk.{width, each, Holds}
+use Rattle.chunk.proofs.Laws.{each_at}
 use Rattle.chunk.specs.declared.Sums.{Sums}
 use Rattle.column.specs.Column.{Column}
+use Rattle.losses.specs.Losses.{without}
 use Rattle.shape.specs.declared.Geometry.{Geometry}
+use Rattle.shape.specs.Layout.{column}
 use Rattle.shape.specs.Refusals.{encode_refusal}
 use Rattle.shape.proofs.Accepts.{shape_accepts}
 use Rattle.shape.proofs.Refused.{well_shaped}
 use Rattle.stretch.specs.Stretch.{Has}
+use Rattle.stretch.proofs.Laws.{column_of_lem}
 use Rattle.sums.specs.Sums.{sums_of, Tails, StoredAdded}
 use Rattle.sums.specs.Strip.{strip, chunks, in_strips, has_strip, HasStrip, strip_columns, over_strip, StripSummed, staged}
 use Rattle.sums.proofs.Horner.{two, tails_none, tails_stored}
@@ -71,12 +75,30 @@ strip_none {g} {s} {i} h x y =
 abbrev pub none : Sums
 none = two [] []
 
--- what a strip's sums say of a chunk
+-- what is worked out of the chunks of a strip, at chunk m
+over_chunk : (g : Geometry) (s : List ℕ) (i x y : ℕ) (f : (ℕ → Column) → Sums) {l : List Sums} → l ≡ over_strip g s i x y f → (m : ℕ) → m < chunks
+    → get_or l m none ≡ f (strip_columns g s i x y m)
+over_chunk g s i x y f is m low =
+    ap (λ (l : List Sums). get_or l m none) is
+    ∙ get_or-map-range_with_len (λ m. f (strip_columns g s i x y m)) 0 chunks m m none low (omega arith)
+
+-- what is worked out of each column of a strip's chunks says of chunk m: f and h of its columns
+pub chunk_seen : {g : Geometry} {s : List ℕ} {i : ℕ} → HasStrip g s i → (x y : ℕ) (f h : Column → ℕ) {l : List Sums}
+    → l ≡ over_strip g s i x y (λ c. two (each (λ j. f (c j))) (each (λ j. h (c j))))
+    → (m : ℕ) → m < chunks
+    → Holds width (λ j. f (without x y (column g s (i + width * m + j)))) (get_or l m none).p
+    × Holds width (λ j. h (without x y (column g s (i + width * m + j)))) (get_or l m none).q
+chunk_seen {g} {s} {i} has x y f h {l} is m low =
+    let here = chunk_of has (width * m) (omega arith) in
+    let chunk = over_chunk g s i x y (λ c. two (each (λ j. f (c j))) (each (λ j. h (c j)))) is m low in (
+      λ j k. ap (λ (a : Sums). get_or a.p j 0) chunk ∙ each_at _ j k ∙ ap (λ (c : Column). f (without x y c)) (column_of_lem here j k),
+      λ j k. ap (λ (a : Sums). get_or a.q j 0) chunk ∙ each_at _ j k ∙ ap (λ (c : Column). h (without x y c)) (column_of_lem here j k),
+    )
+
+-- so do its sums
 pub chunk_summed : {g : Geometry} {s : List ℕ} {i : ℕ} → HasStrip g s i → (x y : ℕ) (before : List Sums) {l : List Sums} → StripSummed g i x y s before l → (m : ℕ) → m < chunks
     → get_or l m none ≡ sums_of g.n (strip_columns g s i x y m)
-chunk_summed {g} {s} {i} h x y before summed m low =
-    ap (λ (l : List Sums). get_or l m none) (rw (has_strip_true h) at summed)
-    ∙ get_or-map-range_with_len (λ m. sums_of g.n (strip_columns g s i x y m)) 0 chunks m m none low (omega arith)
+chunk_summed {g} {s} {i} h x y before summed m low = over_chunk g s i x y (sums_of g.n) (rw (has_strip_true h) at summed) m low
 
 -- a loop that changes a strip's sums chunk after chunk, from f to h: those of the chunks below m are changed
 pub record Changed (f h : ℕ → Sums) (l : List Sums) (m : ℕ) : Type 0 where
