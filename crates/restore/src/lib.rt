@@ -131,14 +131,17 @@ fn restore_part(g: Geometry, stripe: &mut [u8], plan: Plan)
 }
 
 // Step after step, of which the last may take columns again: what was lost comes out the same. Each step has a loop of
-// its own, so that no plan is asked for again at each chunk.
+// its own, so that no plan is asked for again at each chunk. It is no `for` by `step_by`, which tests twice in each turn
+// (docs/DECISIONS.md).
 fn restore_by<S: Step>(g: Geometry, stripe: &mut [u8], step: S)
     requires { WellShaped g stripe.old × (S.COLUMNS ≤ g.b) × KnownPlan g.n (S.plan step) }
     ensures { stripe.new ≡ lift g (λ i c. restored_by g.n (S.plan step) c) stripe.old }
 {
-    for done in (0..g.b).step_by(S::COLUMNS) {
+    let mut done = 0;
+    while done < g.b {
         let i = stretch::next_start(g.b, S::COLUMNS, done);
         step.restore(g, stripe, i);
+        done = i + S::COLUMNS;
     }
 }
 
