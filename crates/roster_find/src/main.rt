@@ -11,10 +11,14 @@ fn main(rt: HostRuntime) {
         let _ = eprintln!(rt; "usage: roster_find SERIAL <ROSTER");
         return;
     };
-    let Some(held) = read_roster(&mut rt.stdin()) else {
+    let mut held = Filled {
+        bytes: [0u8; HELD],
+        count: 0,
+    };
+    if !read_roster(&mut rt.stdin(), &mut held) {
         let _ = eprintln!(rt; "roster_find: the roster could not be read");
         return;
-    };
+    }
     let mut output = [0u8; ANSWER];
     let size = roster_buffers::answer_held(&held, &asked, &mut output);
     if rt.write_all(&output[..size]).is_err() {
@@ -38,23 +42,21 @@ fn argument<E: Env>(rt: &E) -> Option<Filled<ASKED>> {
     }
 }
 
-// Takes in the input to its end, or until no byte that comes later could be taken in. A proved loop has to end, and nothing says
-// that an input does, so it takes a number of turns that no run uses up.
-fn read_roster<R: Read>(input: &mut R) -> Option<Filled<HELD>> {
-    let mut held = Filled {
-        bytes: [0u8; HELD],
-        count: 0,
-    };
+// Takes in the input to its end, or until no byte that comes later could be taken in, and answers whether it could be read. A proved loop
+// has to end, and nothing says that an input does, so it takes a number of turns that no run uses up.
+fn read_roster<R: Read>(input: &mut R, held: &mut Filled<HELD>) -> bool {
     for _ in 0..u64::MAX {
         let mut chunk = [0u8; 4096];
-        let got = input.read(&mut chunk).ok()?;
+        let Ok(got) = input.read(&mut chunk) else {
+            return false;
+        };
         if got == 0 {
-            return Some(held);
+            return true;
         }
-        roster_buffers::take_in(&mut held, &chunk[..got]);
+        roster_buffers::take_in(held, &chunk[..got]);
         if held.count == HELD {
-            return Some(held);
+            return true;
         }
     }
-    None
+    false
 }
