@@ -482,7 +482,33 @@ fn line(
     got: &impl Display,
     ok: &str,
 ) -> io::Result<()> {
-    let expected = format!(in rt.alloc(); "{expected}")?;
-    let got = format!(in rt.alloc(); "{got}")?;
-    println!(rt; "{case:<47}{expected:<19}{got:<19}{ok}")
+    println!(rt; "{case:<47}{}{}{ok}", Cell(expected), Cell(got))
+}
+
+// A value and blanks up to the width of its column. `{:<19}` is for text, and the text of a value would take memory, of which there
+// may be none.
+#[derive(Drop)]
+struct Cell<'a, D>(&'a D);
+
+impl<D: Display> Display for Cell<'_, D> {
+    fn fmt<W: Write>(&self, f: &mut fmt::Formatter<W>) -> fmt::Result {
+        let mut length = Length(0);
+        write!(length, "{}", self.0)?;
+        write!(f, "{}", self.0)?;
+        for _ in length.0..19 {
+            f.write_str(" ")?;
+        }
+        Ok(())
+    }
+}
+
+// The bytes that are written, counted alone.
+#[derive(Clone, Copy)]
+struct Length(usize);
+
+impl Write for Length {
+    fn write_str(&mut self, s: &str) -> fmt::Result {
+        self.0 = self.0.saturating_add(s.len());
+        Ok(())
+    }
 }
