@@ -179,7 +179,7 @@ pub fn field(bytes: &[u8], at: usize) -> usize
     u16::from_be_bytes([high, low]) as usize
 }
 
-// One line of std, which `element_at` of `verdict` has too.
+// One line of std, for both bytes of a field.
 fn byte(bytes: &[u8], at: usize) -> u8
     ensures { result ≡ get_or bytes.now at 0 }
 {
