@@ -165,17 +165,21 @@ fn fill_unclean(sums: &Sums, v: u16, room: &mut [u16])
     }
 }
 
-// Past a chunk there are no sums: P* and Q* are 00 there, and the verdict is 0. No turn of the loop asks for it.
 fn one_by_one(n: usize, sums: &Sums, room: &mut [u16]) -> u16
     ensures { WithSummary (verdicts_of n sums.now.p sums.now.q (length room.old)) result room.new }
 {
-    let columns = room.len().min(WIDTH);
     let mut found = 0;
-    for j in 0..columns {
-        let verdict = verdict_of(n, Element(sums.p[j]), Element(sums.q[j]));
+    for j in 0..room.len() {
+        let verdict = verdict_of(n, element_at(&sums.p, j), element_at(&sums.q, j));
         room[j] = verdict;
         found = joined(found, verdict);
     }
-    room[columns..].fill(0);
     found
+}
+
+// 00 past the end.
+fn element_at(bytes: &[u8], j: usize) -> Element
+    ensures { result.0 ≡ get_or bytes.now j 0 }
+{
+    Element(bytes.get(j).copied().unwrap_or(0))
 }
