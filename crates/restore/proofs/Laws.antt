@@ -98,6 +98,10 @@ module _ {g : Geometry} {plan : Plan} {s : List ℕ} where
   begun_chunk shaped fits next begun =
       record { shaped = shaped_same shaped begun.columns.kept; fits = omega (arith, fits, next); held = omega arith }
 
+  -- the same columns by another count
+  pub begun_count : {done more : ℕ} {t : List ℕ} → done ≡ more → Begun g plan done s t → Begun g plan more s t
+  begun_count e begun = record { within = omega (arith, e, begun.within); columns = columns_count e begun.columns }
+
   -- w columns more, of which the first may have been restored before
   pub begun_next : {w done i : ℕ} {t u : List ℕ} → w ≤ g.b → i ≡ min done (g.b - w) → Begun g plan done s t
       → ColumnsMapped g i w (λ j c. restored_by g.n plan c) t u
@@ -109,6 +113,12 @@ module _ {g : Geometry} {plan : Plan} {s : List ℕ} where
             columns_again (omega arith) (omega (arith, next)) (omega (arith, fits, next, begun.within)) (omega (arith, fits, next)) (restored_again g.n plan) begun.columns
             step;
       }
+
+  -- the same, where a step that passes the end takes the last w columns
+  pub begun_step : {w i : ℕ} {t u : List ℕ} (done : ℕ) → w ≤ g.b → i ≡ min done (g.b - w) → Begun g plan (min done g.b) s t
+      → ColumnsMapped g i w (λ j c. restored_by g.n plan c) t u
+      → Begun g plan (min (done + w) g.b) s u
+  begun_step done fits next begun step = begun_count (omega (arith, fits, next)) (begun_next fits (omega (arith, fits, next)) begun step)
 
   pub begun_all : {done : ℕ} {t : List ℕ} → WellShaped g s → g.b ≤ done → Begun g plan done s t
       → t ≡ lift g (λ i c. restored_by g.n plan c) s

@@ -48,11 +48,16 @@ pub fn has_roles(n: usize, plan: Plan) -> bool
     }
 }
 
-// By strips where that is faster. The plan is asked for here and not at each chunk, so that no closure or trait would be plainer.
+// A block below a chunk is a part; others go by chunks, or by strips where that is faster. The plan is asked for here and not at
+// each chunk, so that no closure or trait would be plainer.
 fn restore_known(g: Geometry, stripe: &mut [u8], plan: Plan)
     requires { WellShaped g stripe.old × KnownPlan g.n plan }
     ensures { stripe.new ≡ lift g (λ i c. restored_by g.n plan c) stripe.old }
 {
+    if g.b < WIDTH {
+        restore_part(g, stripe, plan);
+        return;
+    }
     match plan {
         Plan::ByP(_) => restore_columns(g, stripe, plan),
         Plan::FromData(both) => {
@@ -74,7 +79,7 @@ fn restore_known(g: Geometry, stripe: &mut [u8], plan: Plan)
 
 // Encode, in passes or by strips where that is faster. It is a rebuild of both parities: P is P* and Q is Q* of the data alone.
 fn restore_parities(g: Geometry, stripe: &mut [u8])
-    requires { WellShaped g stripe.old }
+    requires { WellShaped g stripe.old × (width ≤ g.b) }
     ensures { stripe.new ≡ lift g (λ i c. encode_column reed_solomon g.n c) stripe.old }
 {
     if sums::in_passes(g) {
@@ -92,15 +97,11 @@ fn restore_parities(g: Geometry, stripe: &mut [u8])
     restore_columns(g, stripe, Plan::FromData(true));
 }
 
-// By chunks; a block below one is a part. Here and in `restore_part`, too, it is not asked for at each chunk.
+// By chunks. Here and in `restore_part`, too, the plan is not asked for at each chunk.
 fn restore_columns(g: Geometry, stripe: &mut [u8], plan: Plan)
-    requires { WellShaped g stripe.old × KnownPlan g.n plan }
+    requires { WellShaped g stripe.old × (width ≤ g.b) × KnownPlan g.n plan }
     ensures { stripe.new ≡ lift g (λ i c. restored_by g.n plan c) stripe.old }
 {
-    if g.b < WIDTH {
-        restore_part(g, stripe, plan);
-        return;
-    }
     match plan {
         Plan::ByP(x) => restore_by(g, stripe, ByP { x }),
         Plan::FromData(both) => restore_by(g, stripe, FromData { both }),
@@ -108,7 +109,7 @@ fn restore_columns(g: Geometry, stripe: &mut [u8], plan: Plan)
     }
 }
 
-// A block that a chunk can hold. It is no part of its caller: there it took registers from the loops over whole chunks, and a
+// A block that a chunk can hold. It is written into no caller: beside the loops over whole chunks it took registers from them, and a
 // rebuild of two disks with vectors of 256 bits took a fifth longer.
 #[inline(never)]
 fn restore_part(g: Geometry, stripe: &mut [u8], plan: Plan)
@@ -118,30 +119,43 @@ fn restore_part(g: Geometry, stripe: &mut [u8], plan: Plan)
     let at = Stretch { g, i: 0, w: g.b };
     match plan {
         Plan::ByP(x) => restore_by_p(at, stripe, x),
-        Plan::FromData(both) => {
-            let pair = Pair { x: g.n, y: g.n + 1 };
-            let sums = sums::part_survivors(at, stripe, pair);
-            set_from_data(at, stripe, both, sums);
-        }
-        Plan::ByBoth(pair, rule) => {
-            let sums = sums::part_survivors(at, stripe, pair);
-            set_solved(at, stripe, pair, rule, sums);
-        }
+        Plan::FromData(both) => part_from_data(at, stripe, both),
+        Plan::ByBoth(pair, rule) => part_by_both(at, stripe, pair, rule),
     }
 }
 
+// Q of a part and, where true, P. Its sums, and those of the next, are not made in `restore_part`, which would fill them all with 00
+// first, for a plan that goes by P alone too.
+fn part_from_data(at: Stretch, stripe: &mut [u8], both: bool)
+    requires { Has at.g stripe.old at.i at.w }
+    ensures { ColumnsMapped at.g at.i at.w (λ j c. restored_by at.g.n (Plan.FromData both) c) stripe.old stripe.new }
+{
+    let pair = Pair {
+        x: at.g.n,
+        y: at.g.n + 1,
+    };
+    let sums = sums::part_survivors(at, stripe, pair);
+    set_from_data(at, stripe, both, sums);
+}
+
+// Both roles of a part.
+fn part_by_both(at: Stretch, stripe: &mut [u8], pair: Pair, rule: Rule)
+    requires { Has at.g stripe.old at.i at.w × KnownPair at.g.n pair }
+    ensures { ColumnsMapped at.g at.i at.w (λ j c. solved at.g.n pair.x pair.y rule c) stripe.old stripe.new }
+{
+    let sums = sums::part_survivors(at, stripe, pair);
+    set_solved(at, stripe, pair, rule, sums);
+}
+
 // Step after step, of which the last may take columns again: what was lost comes out the same. Each step has a loop of
-// its own, so that no plan is asked for again at each chunk. It is no `for` by `step_by`, which tests twice in each turn
-// (docs/DECISIONS.md).
+// its own, so that no plan is asked for again at each chunk.
 fn restore_by<S: Step>(g: Geometry, stripe: &mut [u8], step: S)
     requires { WellShaped g stripe.old × (S.COLUMNS ≤ g.b) × KnownPlan g.n (S.plan step) }
     ensures { stripe.new ≡ lift g (λ i c. restored_by g.n (S.plan step) c) stripe.old }
 {
-    let mut done = 0;
-    while done < g.b {
+    for done in (0..g.b).step_by(S::COLUMNS) {
         let i = stretch::next_start(g.b, S::COLUMNS, done);
         step.restore(g, stripe, i);
-        done = i + S::COLUMNS;
     }
 }
 
