@@ -14,14 +14,16 @@ use chunk::{Sums, WIDTH};
 use column::Device;
 use gf256::Element;
 
-// The four rows of the paper's table, and equation 27. Neither P* nor Q* is 00 where they are divided,
-// so P* has an inverse and the quotient a logarithm.
-#[tactic(auto, using(column::proofs::Verdicts::row_clean, column::proofs::Verdicts::row_p, column::proofs::Verdicts::row_q, crate::proofs::Divided::inverse_some, crate::proofs::Divided::ratio_nonzero, crate::proofs::Divided::row_ratio))]
+// The four rows of the paper's table, and equation 27. A clean column, the common case, is told by one test. Neither P* nor Q* is
+// 00 where they are divided, so P* has an inverse and the quotient a logarithm.
+#[tactic(auto, using(crate::proofs::Zeros::clean_by_or, column::proofs::Verdicts::row_p, column::proofs::Verdicts::row_q, crate::proofs::Divided::inverse_some, crate::proofs::Divided::ratio_nonzero, crate::proofs::Divided::row_ratio))]
 pub fn verdict_of(n: usize, p: Element, q: Element) -> u16
     ensures { result ≡ verdict_of n p.0 q.0 }
 {
+    if p.0 | q.0 == 0 {
+        return 0;
+    }
     match (p.0, q.0) {
-        (0, 0) => 0,
         (0, _) => 2,
         (_, 0) => 1,
         _ => located(n, q.product(p.inverse().unwrap())),
